@@ -1,0 +1,18 @@
+-- The prime in use, with the numbers of its certificate.
+use mathlib.Core.List.{List, [], _∷_}
+use Prim.Native.Nat.{ℕ}
+
+-- "p = 18446744069414584321", 2 ^ 64 - 2 ^ 32 + 1
+abbrev pub p : ℕ
+p = 18446744069414584321
+
+abbrev pub primitiveRoot : ℕ
+primitiveRoot = 7
+
+-- the primes of p - 1, which is 2 ^ 32 * 3 * 5 * 17 * 257 * 65537
+abbrev pub factors : List ℕ
+factors = 2 ∷ 3 ∷ 5 ∷ 17 ∷ 257 ∷ 65537 ∷ []
+
+-- "y to the power 10540996611094048183" is the seventh root of y
+abbrev pub rootExponent : ℕ
+rootExponent = 10540996611094048183

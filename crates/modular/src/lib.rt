@@ -1,0 +1,1 @@
+// Mathematics only: numbers modulo p. The definitions stand in specs/, their laws in proofs/.
