@@ -1,0 +1,370 @@
+"""The trees of document 01: store, openings, verdicts, replacement, extractor.
+
+Leaves, stores, openings and rows are plain flat lists of words. An entry
+answers a pair: ("refused", r) with the first row r of the table that applies,
+after which every lent list keeps its contents, or what its docstring says.
+A replacement record is a pair (place, six words).
+"""
+
+from field import all_words
+from parameters import ParameterSet, arity, leaf_count, row_of_set
+from poseidon2 import compression, cut
+
+Words = list[int]
+Record = tuple[int, Words]
+Answer = tuple[str, object]
+
+MOST_RECORDS = 2**32
+
+
+# Where things are in a store: level 0, then level 1, up to the root.
+
+
+def level_nodes(s: ParameterSet, level: int) -> int:
+    """Level j has k^(h - j) nodes."""
+    return arity(s) ** (s.height - level)
+
+
+def node_start(s: ParameterSet, level: int, index: int) -> int:
+    """The place in the store of the first word of a level's node."""
+    below = sum(level_nodes(s, j) for j in range(level))
+    return (below + index) * s.node_size
+
+
+def leaves_length(s: ParameterSet) -> int:
+    """The k^h leaves have l words each."""
+    return leaf_count(s) * s.node_size
+
+
+def store_length(s: ParameterSet) -> int:
+    """A store holds every level from the leaves to the root, l words a node."""
+    return node_start(s, s.height, 0) + s.node_size
+
+
+def siblings_length(s: ParameterSet) -> int:
+    """An opening has h * (k - 1) * l words."""
+    return s.height * (arity(s) - 1) * s.node_size
+
+
+def is_place(s: ParameterSet, place: int) -> bool:
+    """A place q has 0 <= q < k^h."""
+    return 0 <= place < leaf_count(s)
+
+
+# Building and the root.
+
+
+def levels(s: ParameterSet, leaves: Words) -> list[Words]:
+    """Node i of level j + 1 compresses nodes k*i to k*i + k - 1 of level j."""
+    made = [list(leaves)]
+    for _ in range(s.height):
+        rows = cut(made[-1], s.width)
+        made.append([word for row in rows for word in compression(s, row)])
+    return made
+
+
+def build(s: ParameterSet, leaves: Words, store: Words) -> Answer:
+    """Building writes the whole store from the k^h leaves: ("done", None)."""
+    row = row_of_set(s)
+    if row is not None:
+        return ("refused", row)
+    if len(leaves) != leaves_length(s) or len(store) != store_length(s):
+        return ("refused", 10)
+    if not all_words(leaves):
+        return ("refused", 12)
+    store[:] = [word for level in levels(s, leaves) for word in level]
+    return ("done", None)
+
+
+def root(s: ParameterSet, store: Words) -> Answer:
+    """The root is the store's last l words: ("words", root)."""
+    row = row_of_set(s)
+    if row is not None:
+        return ("refused", row)
+    if len(store) != store_length(s):
+        return ("refused", 10)
+    last = store[-s.node_size :]
+    if not all_words(last):
+        return ("refused", 12)
+    return ("words", last)
+
+
+def node_from_leaves(s: ParameterSet, leaves: Words, level: int, index: int) -> Words:
+    """A node above the leaves is worked out from its row."""
+    if level == 0:
+        return leaves[index * s.node_size : (index + 1) * s.node_size]
+    return compression(s, row_from_leaves(s, leaves, level, index, arity(s)))
+
+
+def row_from_leaves(
+    s: ParameterSet, leaves: Words, level: int, index: int, children: int
+) -> Words:
+    """A row is worked out from its nodes, here the first few children of a node."""
+    if children == 0:
+        return []
+    before = row_from_leaves(s, leaves, level, index, children - 1)
+    last = arity(s) * index + children - 1
+    return before + node_from_leaves(s, leaves, level - 1, last)
+
+
+def storeless_root(s: ParameterSet, leaves: Words) -> Answer:
+    """The storeless root reads leaves only: ("words", root)."""
+    row = row_of_set(s)
+    if row is not None:
+        return ("refused", row)
+    if len(leaves) != leaves_length(s):
+        return ("refused", 10)
+    if not all_words(leaves):
+        return ("refused", 12)
+    return ("words", node_from_leaves(s, leaves, s.height, 0))
+
+
+# Openings and verdicts.
+
+
+def place_in_row(s: ParameterSet, place: int, level: int) -> int:
+    """Which of the k nodes of its row the node q div k^j is."""
+    return place // arity(s) ** level % arity(s)
+
+
+def stored_row(s: ParameterSet, store: Words, level: int, index: int) -> Words:
+    """The k nodes of a level that node i of the level above compresses."""
+    start = node_start(s, level, arity(s) * index)
+    return store[start : start + s.width]
+
+
+def stored_siblings(s: ParameterSet, store: Words, place: int) -> Words:
+    """For each level the row containing node q div k^j, that node left out."""
+    siblings = []
+    for level in range(s.height):
+        index = place // arity(s) ** level
+        row = stored_row(s, store, level, index // arity(s))
+        own = place_in_row(s, place, level) * s.node_size
+        siblings += row[:own] + row[own + s.node_size :]
+    return siblings
+
+
+def opening(s: ParameterSet, store: Words, place: int, siblings: Words) -> Answer:
+    """The opening of a place is written to the lent siblings: ("done", None)."""
+    row = row_of_set(s)
+    if row is not None:
+        return ("refused", row)
+    if len(store) != store_length(s) or len(siblings) != siblings_length(s):
+        return ("refused", 10)
+    if not is_place(s, place):
+        return ("refused", 11)
+    copied = stored_siblings(s, store, place)
+    if not all_words(copied):
+        return ("refused", 12)
+    siblings[:] = copied
+    return ("done", None)
+
+
+def level_part(s: ParameterSet, siblings: Words, level: int) -> Words:
+    """The part of an opening for one level: k - 1 nodes."""
+    size = s.width - s.node_size
+    return siblings[level * size : (level + 1) * size]
+
+
+def read_opening(s: ParameterSet, siblings: Words, level: int) -> Answer:
+    """The opening reader hands back, and checks, one level's part: ("words", part)."""
+    row = row_of_set(s)
+    if row is not None:
+        return ("refused", row)
+    if len(siblings) != siblings_length(s):
+        return ("refused", 10)
+    if not 0 <= level < s.height:
+        return ("refused", 11)
+    part = level_part(s, siblings, level)
+    if not all_words(part):
+        return ("refused", 12)
+    return ("words", part)
+
+
+def verdict_rows(
+    s: ParameterSet, place: int, leaf: Words, siblings: Words
+) -> tuple[list[Words], Words]:
+    """The leaf put back among its siblings at each level: the rows, and their end."""
+    rows = []
+    node = leaf
+    for level in range(s.height):
+        part = level_part(s, siblings, level)
+        own = place_in_row(s, place, level) * s.node_size
+        rows.append(part[:own] + node + part[own:])
+        node = compression(s, rows[-1])
+    return (rows, node)
+
+
+def verify(
+    s: ParameterSet, root: Words, place: int, leaf: Words, siblings: Words
+) -> Answer:
+    """A verdict is ("accepted", None), ("rejected", None), or refused with its number."""
+    row = row_of_set(s)
+    if row is not None:
+        return ("refused", row)
+    if len(root) != s.node_size or len(leaf) != s.node_size:
+        return ("refused", 10)
+    if len(siblings) != siblings_length(s):
+        return ("refused", 10)
+    if not is_place(s, place):
+        return ("refused", 11)
+    if not all_words(root + leaf + siblings):
+        return ("refused", 12)
+    _, end = verdict_rows(s, place, leaf, siblings)
+    return ("accepted" if end == root else "rejected", None)
+
+
+# Replacement and push.
+
+
+def write_node(
+    s: ParameterSet, store: Words, level: int, index: int, count: int
+) -> int:
+    """Compresses a row, writes its node and answers the count it is handed plus one."""
+    start = node_start(s, level, index)
+    row = stored_row(s, store, level - 1, index)
+    store[start : start + s.node_size] = compression(s, row)
+    return count + 1
+
+
+def write_path(
+    s: ParameterSet, store: Words, place: int, leaf: Words, count: int
+) -> int:
+    """Writes the leaf at q and the h nodes above it; answers the count handed on."""
+    start = node_start(s, 0, place)
+    store[start : start + s.node_size] = leaf
+    for level in range(1, s.height + 1):
+        count = write_node(s, store, level, place // arity(s) ** level, count)
+    return count
+
+
+def replace(s: ParameterSet, store: Words, place: int, leaf: Words) -> Answer:
+    """A replacement reports the compressions made: ("count", n)."""
+    row = row_of_set(s)
+    if row is not None:
+        return ("refused", row)
+    if len(store) != store_length(s) or len(leaf) != s.node_size:
+        return ("refused", 10)
+    if not is_place(s, place):
+        return ("refused", 11)
+    if not all_words(leaf + stored_siblings(s, store, place)):
+        return ("refused", 12)
+    return ("count", write_path(s, store, place, leaf, 0))
+
+
+def record_leaf(s: ParameterSet, record: Record) -> Words:
+    """The first l of a record's six words are the leaf; the rest aren't read."""
+    _, words = record
+    return words[: s.node_size]
+
+
+def push(s: ParameterSet, store: Words, records: list[Record]) -> Answer:
+    """Records are done in order; the count is h times the list's length: ("count", n)."""
+    row = row_of_set(s)
+    if row is not None:
+        return ("refused", row)
+    if len(store) != store_length(s) or len(records) > MOST_RECORDS:
+        return ("refused", 10)
+    if not all(is_place(s, place) for place, _ in records):
+        return ("refused", 11)
+    if not all(all_words(record_leaf(s, record)) for record in records):
+        return ("refused", 12)
+    if not all_words(store):
+        return ("refused", 12)
+    count = 0
+    for record in records:
+        count = write_path(s, store, record[0], record_leaf(s, record), count)
+    return ("count", count)
+
+
+# The extractor.
+
+
+def extract(
+    s: ParameterSet,
+    root: Words,
+    place: int,
+    first_leaf: Words,
+    first_siblings: Words,
+    second_leaf: Words,
+    second_siblings: Words,
+    first_row: Words,
+    second_row: Words,
+) -> Answer:
+    """The lowest level at which the two rows differ and compress alike: ("level", j)."""
+    row = row_of_set(s)
+    if row is not None:
+        return ("refused", row)
+    if any(len(node) != s.node_size for node in (root, first_leaf, second_leaf)):
+        return ("refused", 10)
+    if any(len(o) != siblings_length(s) for o in (first_siblings, second_siblings)):
+        return ("refused", 10)
+    if len(first_row) != s.width or len(second_row) != s.width:
+        return ("refused", 10)
+    if not is_place(s, place):
+        return ("refused", 11)
+    leaves = first_leaf + second_leaf
+    if not all_words(root + leaves + first_siblings + second_siblings):
+        return ("refused", 12)
+    first_rows, first_end = verdict_rows(s, place, first_leaf, first_siblings)
+    second_rows, second_end = verdict_rows(s, place, second_leaf, second_siblings)
+    if first_end != root or second_end != root:
+        return ("refused", 14)
+    if first_leaf == second_leaf:
+        return ("refused", 15)
+    level = colliding_level(s, first_rows, second_rows)
+    first_row[:] = first_rows[level]
+    second_row[:] = second_rows[level]
+    return ("level", level)
+
+
+def colliding_level(
+    s: ParameterSet, first_rows: list[Words], second_rows: list[Words]
+) -> int:
+    """There is one: the leaves differ and the ends don't, so a row loses a difference."""
+    return next(
+        level
+        for level, (a, b) in enumerate(zip(first_rows, second_rows))
+        if a != b and compression(s, a) == compression(s, b)
+    )
+
+
+# The leaf book: k^h leaves and nothing else, each a list of l words. It is fed
+# the set's numbers and each call's other arguments, never the store.
+
+
+def open_book(s: ParameterSet, leaves: Words) -> list[Words]:
+    """The book starts as the leaves handed to building."""
+    return cut(list(leaves), s.node_size)
+
+
+def book_leaves(book: list[Words]) -> Words:
+    """The book's leaves as the list that building takes."""
+    return [word for leaf in book for word in leaf]
+
+
+def book_replace(
+    s: ParameterSet, book: list[Words], place: int, leaf: Words
+) -> Answer:
+    """The leaf goes to its place, and the answer is h."""
+    if len(leaf) != s.node_size:
+        return ("refused", 10)
+    if not is_place(s, place):
+        return ("refused", 11)
+    if not all_words(leaf):
+        return ("refused", 12)
+    book[place] = list(leaf)
+    return ("count", s.height)
+
+
+def book_push(s: ParameterSet, book: list[Words], records: list[Record]) -> Answer:
+    """Each record's leaf goes to its place, in order; h times the number of records."""
+    if len(records) > MOST_RECORDS:
+        return ("refused", 10)
+    if not all(is_place(s, place) for place, _ in records):
+        return ("refused", 11)
+    if not all(all_words(record_leaf(s, record)) for record in records):
+        return ("refused", 12)
+    for record in records:
+        book[record[0]] = list(record_leaf(s, record))
+    return ("count", s.height * len(records))

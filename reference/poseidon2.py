@@ -1,0 +1,194 @@
+"""The permutation of document 01, its inverse, and compression.
+
+The functions above the entries take words of an accepted set. The entries
+(permute, unpermute, compress) judge what they are handed and answer
+("words", list) or ("refused", r); they change nothing that is lent to them.
+"""
+
+from typing import Callable
+
+from field import P, SEVENTH_ROOT_EXPONENT, all_words
+from parameters import ParameterSet, row_of_set, used_constants, used_diagonal
+
+Words = list[int]
+Matrix = list[list[int]]
+
+M4 = [
+    [5, 7, 1, 3],
+    [4, 6, 1, 1],
+    [1, 3, 5, 7],
+    [1, 1, 4, 6],
+]
+
+
+def times(matrix: Matrix, words: Words) -> Words:
+    """A matrix applied to words: each row times the words, summed."""
+    return [sum(m * w for m, w in zip(row, words)) % P for row in matrix]
+
+
+def add(left: Words, right: Words) -> Words:
+    """Words added word by word."""
+    return [(a + b) % P for a, b in zip(left, right)]
+
+
+def subtract(left: Words, right: Words) -> Words:
+    """Words subtracted word by word."""
+    return [(a - b) % P for a, b in zip(left, right)]
+
+
+def external_layer(state: Words) -> Words:
+    """M_E: M4 on each block; for 8 and 12 add to each the sum of all results."""
+    blocks = [times(M4, state[i : i + 4]) for i in range(0, len(state), 4)]
+    if len(blocks) == 1:
+        return blocks[0]
+    total = [0, 0, 0, 0]
+    for block in blocks:
+        total = add(total, block)
+    return [word for block in blocks for word in add(block, total)]
+
+
+def internal_layer(diagonal: Words, state: Words) -> Words:
+    """M_I: word i becomes the sum of all words plus D_i times word i."""
+    total = sum(state)
+    return [(total + d * word) % P for d, word in zip(diagonal, state)]
+
+
+def full_round(constants: Words, state: Words) -> Words:
+    """Full round: add t constants, raise every word to the 7th power, apply M_E."""
+    return external_layer([pow(word, 7, P) for word in add(state, constants)])
+
+
+def partial_round(constant: int, diagonal: Words, state: Words) -> Words:
+    """Partial round: add one constant to word 0, raise word 0 alone, apply M_I."""
+    raised = pow(state[0] + constant, 7, P)
+    return internal_layer(diagonal, [raised] + state[1:])
+
+
+def round_constants(s: ParameterSet) -> tuple[Matrix, Words, Matrix]:
+    """C: the first half of the full rounds, the partial rounds, the second half."""
+    constants = used_constants(s)
+    half = s.width * (s.full_rounds // 2)
+    first = constants[:half]
+    partial = constants[half : half + s.partial_rounds]
+    second = constants[half + s.partial_rounds :]
+    return (cut(first, s.width), partial, cut(second, s.width))
+
+
+def cut(words: Words, size: int) -> Matrix:
+    """The words cut into parts of equal size."""
+    return [words[i : i + size] for i in range(0, len(words), size)]
+
+
+def permutation(s: ParameterSet, state: Words) -> Words:
+    """Order: M_E; R_F/2 full; R_P partial; R_F/2 full."""
+    first, partial, second = round_constants(s)
+    state = external_layer(state)
+    for constants in first:
+        state = full_round(constants, state)
+    for constant in partial:
+        state = partial_round(constant, used_diagonal(s), state)
+    for constants in second:
+        state = full_round(constants, state)
+    return state
+
+
+def compression(s: ParameterSet, x: Words) -> Words:
+    """Compression: the first l words of permutation(x) + x."""
+    return add(permutation(s, x), x)[: s.node_size]
+
+
+# The inverse permutation undoes each step in the opposite order. The inverse
+# of a linear layer is found by elimination on its full t by t matrix.
+
+
+def matrix_of(layer: Callable[[Words], Words], width: int) -> Matrix:
+    """The t by t matrix of a linear layer; column i is the image of unit word i."""
+    columns = [
+        layer([1 if row == i else 0 for row in range(width)]) for i in range(width)
+    ]
+    return [list(row) for row in zip(*columns)]
+
+
+def inverse_matrix(matrix: Matrix) -> Matrix:
+    """Gaussian elimination modulo p on the matrix beside the identity."""
+    size = len(matrix)
+    rows = [
+        list(matrix[i]) + [1 if j == i else 0 for j in range(size)]
+        for i in range(size)
+    ]
+    for i in range(size):
+        pivot = next(r for r in range(i, size) if rows[r][i] != 0)
+        rows[i], rows[pivot] = rows[pivot], rows[i]
+        scale = pow(rows[i][i], -1, P)
+        rows[i] = [n * scale % P for n in rows[i]]
+        for r in range(size):
+            if r != i:
+                factor = rows[r][i]
+                rows[r] = [(a - factor * b) % P for a, b in zip(rows[r], rows[i])]
+    return [row[size:] for row in rows]
+
+
+def undo_full_round(constants: Words, external_inverse: Matrix, state: Words) -> Words:
+    """A full round undone: M_E's inverse, every seventh root, constants off."""
+    raised = times(external_inverse, state)
+    return subtract([pow(word, SEVENTH_ROOT_EXPONENT, P) for word in raised], constants)
+
+
+def undo_partial_round(constant: int, internal_inverse: Matrix, state: Words) -> Words:
+    """A partial round undone: M_I's inverse, word 0's seventh root, constant off."""
+    raised = times(internal_inverse, state)
+    word = (pow(raised[0], SEVENTH_ROOT_EXPONENT, P) - constant) % P
+    return [word] + raised[1:]
+
+
+def inverse_permutation(s: ParameterSet, state: Words) -> Words:
+    """The inverse permutation returns the state whose permutation is given."""
+    first, partial, second = round_constants(s)
+    diagonal = used_diagonal(s)
+    external_inverse = inverse_matrix(matrix_of(external_layer, s.width))
+    internal_inverse = inverse_matrix(
+        matrix_of(lambda words: internal_layer(diagonal, words), s.width)
+    )
+    for constants in reversed(second):
+        state = undo_full_round(constants, external_inverse, state)
+    for constant in reversed(partial):
+        state = undo_partial_round(constant, internal_inverse, state)
+    for constants in reversed(first):
+        state = undo_full_round(constants, external_inverse, state)
+    return times(external_inverse, state)
+
+
+def row_of_state(s: ParameterSet, state: Words) -> int | None:
+    """The first row that applies to a set and a state handed in, or None."""
+    row = row_of_set(s)
+    if row is not None:
+        return row
+    if len(state) != s.width:
+        return 10
+    if not all_words(state):
+        return 12
+    return None
+
+
+def permute(s: ParameterSet, state: Words) -> tuple[str, Words | int]:
+    """The permutation of a state of t words."""
+    row = row_of_state(s, state)
+    if row is not None:
+        return ("refused", row)
+    return ("words", permutation(s, state))
+
+
+def unpermute(s: ParameterSet, state: Words) -> tuple[str, Words | int]:
+    """The state whose permutation is given."""
+    row = row_of_state(s, state)
+    if row is not None:
+        return ("refused", row)
+    return ("words", inverse_permutation(s, state))
+
+
+def compress(s: ParameterSet, state: Words) -> tuple[str, Words | int]:
+    """The compression of t words."""
+    row = row_of_state(s, state)
+    if row is not None:
+        return ("refused", row)
+    return ("words", compression(s, state))

@@ -1,0 +1,586 @@
+"""Checks the reference on document 01's worked cases and on published vectors.
+
+Each group below yields checks (name, got, expected). One line is printed for a
+group, one more for each check that failed, and the totals last.
+"""
+
+import random
+import sys
+from collections.abc import Callable, Iterator
+
+import collisions
+import field
+import merkle
+import poseidon2
+import program
+import published
+from field import P
+from parameters import (
+    ParameterSet,
+    arity,
+    constant_count,
+    leaf_count,
+    row_of_set,
+    validate,
+)
+
+Check = tuple[str, object, object]
+
+T_CONSTANTS = [0, 0, 0, 0, P - 505316, P - 410806, P - 127289, P - 94519]
+U_CONSTANTS = [0, 0, 0, 0] + [P - 505316]
+U_CONSTANTS += [P - 632615, P - 1454227, P - 1014482, P - 1010691]
+T_NUMBERS = [4, 2, 1, 2, 0, 1, 2, 3, 4] + T_CONSTANTS
+
+
+def accepted(*arguments) -> ParameterSet:
+    """A set that the judge must accept."""
+    kind, judged = validate(*arguments)
+    assert kind == "set", (kind, judged)
+    return judged
+
+
+def set_t() -> ParameterSet:
+    """T of document 01."""
+    return accepted(4, 2, 1, 2, 0, [1, 2, 3, 4], T_CONSTANTS)
+
+
+def set_u() -> ParameterSet:
+    """U of document 01."""
+    return accepted(4, 2, 1, 2, 1, [1, 2, 3, 4], U_CONSTANTS)
+
+
+def seeded_words(rng: random.Random, count: int) -> list[int]:
+    """Words for the seeded checks."""
+    return [rng.randrange(P) for _ in range(count)]
+
+
+def seeded_set(
+    rng: random.Random, width: int, node_size: int, height: int, full: int, partial: int
+) -> ParameterSet:
+    """A set with drawn words in D and C."""
+    return accepted(
+        width,
+        node_size,
+        height,
+        full,
+        partial,
+        [rng.randrange(1, P) for _ in range(width)],
+        seeded_words(rng, constant_count(width, full, partial)),
+    )
+
+
+def built(s: ParameterSet, leaves: list[int]) -> list[int]:
+    """The store that building writes."""
+    store = [P] * merkle.store_length(s)
+    assert merkle.build(s, leaves, store) == ("done", None)
+    return store
+
+
+def opened(s: ParameterSet, store: list[int], place: int) -> list[int]:
+    """The opening that the opening entry writes."""
+    siblings = [P] * merkle.siblings_length(s)
+    assert merkle.opening(s, store, place, siblings) == ("done", None)
+    return siblings
+
+
+def program_input(numbers: list[int]) -> bytes:
+    """Numbers as the root program reads them."""
+    return b"".join(n.to_bytes(8, "little") for n in numbers)
+
+
+# The cases of "Worked by hand".
+
+
+def worked_field() -> Iterator[Check]:
+    """The field's worked cases."""
+    yield "(p-1)x(p-1)", field.product(P - 1, P - 1), ("word", 1)
+    yield "2^32 x 2^32", field.product(2**32, 2**32), ("word", 4294967295)
+    yield "2^48 x 2^48", field.product(2**48, 2**48), ("word", P - 1)
+    yield "0-1", field.difference(0, 1), ("word", P - 1)
+    yield "inverse of 2", field.inverse(2), ("word", 9223372034707292161)
+    yield "root of 128", field.seventh_root(128), ("word", 2)
+
+
+def worked_layers() -> Iterator[Check]:
+    """The worked cases of M4, M_E and M_I."""
+    yield "M4", poseidon2.times(poseidon2.M4, [1, 0, 0, 0]), [5, 4, 1, 1]
+    got = poseidon2.external_layer([1, 0, 0, 0, 0, 0, 0, 0])
+    yield "M_E, t=8", got, [10, 8, 2, 2, 5, 4, 1, 1]
+    got = poseidon2.internal_layer(set_t().diagonal[:4], [1, 0, 0, 0])
+    yield "M_I under T", got, [2, 1, 1, 1]
+
+
+def worked_permutation() -> Iterator[Check]:
+    """The worked permutations and compressions."""
+    for name, s in (("T", set_t()), ("U", set_u())):
+        got = poseidon2.permute(s, [1, 0, 0, 0])
+        yield f"permutation under {name}", got, ("words", [5, 4, 1, 1])
+        got = poseidon2.compress(s, [1, 0, 0, 0])
+        yield f"compression under {name}", got, ("words", [6, 4])
+
+
+def worked_tree() -> Iterator[Check]:
+    """The worked tree: leaves (1,0),(0,0) under T."""
+    s = set_t()
+    store = built(s, [1, 0, 0, 0])
+    yield "store", store, [1, 0, 0, 0, 6, 4]
+    yield "root", merkle.root(s, store), ("words", [6, 4])
+    yield "storeless", merkle.storeless_root(s, [1, 0, 0, 0]), ("words", [6, 4])
+    yield "opening of place 0", opened(s, store, 0), [0, 0]
+    yield "opening of place 1", opened(s, store, 1), [1, 0]
+
+
+def worked_program() -> Iterator[Check]:
+    """The worked runs of the root program."""
+    got = program.run(program_input(T_NUMBERS + [1, 0, 0, 0]))
+    yield "T and 1,0,0,0", got, b"6\n4\n"
+    yield "empty input", program.run(b""), b"refused 10\n"
+
+
+def worked_judge() -> Iterator[Check]:
+    """The worked cases of the judge."""
+    got = validate(4, 2, 1, 2, 0, [P - 4] * 4, T_CONSTANTS)
+    yield "D all p-4", got, ("refused", 9)
+    numbers = [1, 2, 3, 4], T_CONSTANTS
+    yield "k=2, h=32", validate(4, 2, 32, 2, 0, *numbers)[0], "set"
+    yield "k=2, h=33", validate(4, 2, 33, 2, 0, *numbers), ("refused", 5)
+    twelve = [1] * 12, [0] * 24
+    yield "k=12, h=8", validate(12, 1, 8, 2, 0, *twelve)[0], "set"
+    yield "k=12, h=9", validate(12, 1, 9, 2, 0, *twelve), ("refused", 5)
+
+
+def worked_place() -> Iterator[Check]:
+    """Place 2 under T: 11, in every entry that takes a place."""
+    s = set_t()
+    store = built(s, [1, 0, 0, 0])
+    gone = ("refused", 11)
+    yield "opening", merkle.opening(s, store, 2, [0, 0]), gone
+    yield "verdict", merkle.verify(s, [6, 4], 2, [1, 0], [0, 0]), gone
+    yield "replacement", merkle.replace(s, store, 2, [1, 0]), gone
+    yield "push", merkle.push(s, store, [(2, [0] * 6)]), gone
+    rows = [0] * 4, [0] * 4
+    got = merkle.extract(s, [6, 4], 2, [1, 0], [0, 0], [0, 0], [0, 0], *rows)
+    yield "extractor", got, gone
+
+
+def worked_word() -> Iterator[Check]:
+    """A word p: 12; p-1 fits."""
+    s = set_t()
+    for n, fits in ((P, False), (P - 1, True)):
+        store = built(s, [1, 0, 0, 0])
+        answers = {
+            "sum": field.sum(n, 0),
+            "difference": field.difference(0, n),
+            "product": field.product(1, n),
+            "power": field.power(n, 0),
+            "inverse": field.inverse(n),
+            "seventh root": field.seventh_root(n),
+            "permutation": poseidon2.permute(s, [0, 0, 0, n]),
+            "inverse permutation": poseidon2.unpermute(s, [n, 0, 0, 0]),
+            "compression": poseidon2.compress(s, [0, n, 0, 0]),
+            "building": merkle.build(s, [0, 0, n, 0], [0] * 6),
+            "storeless root": merkle.storeless_root(s, [0, 0, n, 0]),
+            "verdict, root": merkle.verify(s, [6, n], 0, [1, 0], [0, 0]),
+            "verdict, leaf": merkle.verify(s, [6, 4], 0, [n, 0], [0, 0]),
+            "verdict, sibling": merkle.verify(s, [6, 4], 0, [1, 0], [0, n]),
+            "replacement": merkle.replace(s, store, 0, [n, 0]),
+            "push": merkle.push(s, store, [(0, [0, n, 0, 0, 0, 0])]),
+        }
+        for name, answer in answers.items():
+            yield f"{name} of {n}", answer != ("refused", 12), fits
+
+
+# The published instances.
+
+
+def published_instances() -> Iterator[Check]:
+    """Known answers of the published permutations, forwards and backwards."""
+    for instance in published.INSTANCES:
+        s = accepted(
+            instance["width"],
+            instance["width"] // 2,
+            1,
+            instance["full_rounds"],
+            instance["partial_rounds"],
+            instance["diagonal"],
+            instance["constants"],
+        )
+        for before, after in instance["known_answers"]:
+            name = f"t={s.width} of {before}"
+            yield name, poseidon2.permute(s, before), ("words", after)
+            yield name + " back", poseidon2.unpermute(s, after), ("words", before)
+
+
+# Further checks of the reference against document 01's sentences.
+
+
+def field_rules() -> Iterator[Check]:
+    """The field's rules beyond the worked cases."""
+    yield "root's exponent", field.SEVENTH_ROOT_EXPONENT, 10540996611094048183
+    yield "0 to the power 0", field.power(0, 0), ("word", 1)
+    yield "exponent p is free", field.power(3, P), ("word", 3)
+    yield "exponent 2^64 - 1", field.power(2, 2**64 - 1), ("word", 2**31 * 2**32 % P)
+    yield "inverse of 0", field.inverse(0), ("refused", 13)
+    yield "inverse of p", field.inverse(P), ("refused", 12)
+    yield "inverse of 2^64 - 1", field.inverse(2**64 - 1), ("refused", 12)
+    rng = random.Random(1)
+    for word in seeded_words(rng, 50):
+        _, inverse = field.inverse(word)
+        yield f"inverse of {word}", field.product(word, inverse), ("word", 1)
+        _, root = field.seventh_root(word)
+        yield f"root of {word}", field.power(root, 7), ("word", word)
+
+
+def judge_rows() -> Iterator[Check]:
+    """Each row of the judge, and the lowest where several apply."""
+    d, c = [1, 2, 3, 4], T_CONSTANTS
+    huge = 2**64 - 1
+    cases = [
+        (1, (0, 2, 1, 2, 0, d, c)),
+        (1, (5, 0, huge, huge, huge, [], [])),
+        (1, (16, 2, 1, 2, 0, d, c)),
+        (2, (4, 0, huge, huge, huge, [], [])),
+        (2, (4, 3, 1, 2, 0, d, c)),
+        (2, (4, 4, 1, 2, 0, d, c)),
+        (2, (4, 8, 1, 2, 0, d, c)),
+        (3, (4, 2, huge, 0, huge, [], [])),
+        (3, (4, 2, 1, 3, 0, d, c)),
+        (3, (4, 2, 1, 14, 0, d, c)),
+        (4, (4, 2, huge, 2, 65, [], [])),
+        (5, (4, 2, 33, 2, 0, [], [])),
+        (5, (4, 1, 17, 2, 0, d, c)),
+        (5, (4, 2, huge, 2, 0, d, c)),
+        (6, (4, 2, 1, 2, 0, [P, 0, 1], c)),
+        (6, (4, 2, 1, 2, 0, d + [1], c)),
+        (6, (4, 2, 1, 2, 0, d, c[:-1])),
+        (6, (4, 2, 1, 2, 0, d, c + [0])),
+        (7, (4, 2, 1, 2, 0, [0, 0, 0, P], c)),
+        (7, (4, 2, 1, 2, 0, [P - 4] * 4, c[:-1] + [P])),
+        (8, (4, 2, 1, 2, 0, [P - 1, 0, 1, 1], c)),
+        (9, (4, 2, 1, 2, 0, [P - 4] * 4, c)),
+    ]
+    for row, arguments in cases:
+        yield f"row {row} of {arguments}", validate(*arguments), ("refused", row)
+    s = set_t()
+    yield "accepted D", s.diagonal, d + [0] * 8
+    yield "accepted C", s.constants, c + [0] * 200
+    most = validate(12, 6, 32, 12, 64, [1] * 12, [P - 1] * 208)
+    yield "the largest set", most[0], "set"
+
+
+def handed_sets() -> Iterator[Check]:
+    """A set handed in is judged by the same rows but 6, on its used places only."""
+    s = set_t()
+    yield "T", row_of_set(s), None
+    s.diagonal[4:] = [0, P] * 4
+    s.constants[8:] = [P] * 200
+    yield "places beyond", row_of_set(s), None
+    yield "still permutes", poseidon2.permute(s, [1, 0, 0, 0]), ("words", [5, 4, 1, 1])
+    changes = [
+        (1, "width", 6),
+        (2, "node_size", 0),
+        (3, "full_rounds", 1),
+        (4, "partial_rounds", 65),
+        (5, "height", 33),
+        (7, "diagonal", [P] + [1] * 11),
+        (7, "constants", [P] + [0] * 207),
+        (8, "diagonal", [0] + [1] * 11),
+        (9, "diagonal", [P - 4] * 12),
+    ]
+    for row, name, value in changes:
+        s = set_t()
+        setattr(s, name, value)
+        yield f"{name} to {value}", row_of_set(s), row
+        refused = ("refused", row)
+        yield f"permute, row {row}", poseidon2.permute(s, [P]), refused
+        yield f"build, row {row}", merkle.build(s, [P], []), refused
+        yield f"push, row {row}", merkle.push(s, [P], [(9, [P] * 6)]), refused
+
+
+def inverse_permutations() -> Iterator[Check]:
+    """The inverse permutation returns the state whose permutation is given."""
+    rng = random.Random(2)
+    for width in (4, 8, 12):
+        for full, partial in ((2, 0), (4, 3), (12, 64)):
+            s = seeded_set(rng, width, 2, 1, full, partial)
+            state = seeded_words(rng, width)
+            name = f"t={width}, R_F={full}, R_P={partial}"
+            _, after = poseidon2.permute(s, state)
+            yield name, poseidon2.unpermute(s, after), ("words", state)
+            _, before = poseidon2.unpermute(s, state)
+            yield name + " back", poseidon2.permute(s, before), ("words", state)
+
+
+# Width, node size and height.
+TREE_SHAPES = [
+    (4, 2, 0),
+    (4, 2, 3),
+    (4, 1, 2),
+    (8, 4, 3),
+    (8, 2, 2),
+    (8, 1, 1),
+    (12, 6, 3),
+    (12, 4, 2),
+    (12, 3, 2),
+    (12, 2, 1),
+    (12, 1, 1),
+    (12, 6, 0),
+]
+
+
+def trees() -> Iterator[Check]:
+    """Building, storeless root, openings and verdicts agree on every shape."""
+    rng = random.Random(3)
+    for width, node_size, height in TREE_SHAPES:
+        s = seeded_set(rng, width, node_size, height, 2, 1)
+        name = f"t={width}, l={node_size}, h={height}"
+        leaves = seeded_words(rng, merkle.leaves_length(s))
+        store = built(s, leaves)
+        root = store[-node_size:]
+        yield name + " leaves", store[: len(leaves)], leaves
+        yield name + " root", merkle.root(s, store), ("words", root)
+        yield name + " storeless", merkle.storeless_root(s, leaves), ("words", root)
+        yield name + " program", run_on(s, leaves), "".join(f"{w}\n" for w in root)
+        for place in range(leaf_count(s)):
+            leaf = leaves[place * node_size : (place + 1) * node_size]
+            siblings = opened(s, store, place)
+            got = merkle.verify(s, root, place, leaf, siblings)
+            yield f"{name} place {place}", got, ("accepted", None)
+            other = [(leaf[0] + 1) % P] + leaf[1:]
+            got = merkle.verify(s, root, place, other, siblings)
+            yield f"{name} other leaf {place}", got, ("rejected", None)
+            parts = [merkle.read_opening(s, siblings, j) for j in range(height)]
+            read = [word for _, part in parts for word in part]
+            yield f"{name} parts {place}", read, siblings
+
+
+def run_on(s: ParameterSet, leaves: list[int]) -> str:
+    """The root program on a set and leaves."""
+    numbers = [s.width, s.node_size, s.height, s.full_rounds, s.partial_rounds]
+    count = constant_count(s.width, s.full_rounds, s.partial_rounds)
+    numbers += s.diagonal[: s.width] + s.constants[:count] + leaves
+    return program.run(program_input(numbers)).decode()
+
+
+def leaf_book() -> Iterator[Check]:
+    """After a list of calls, the store is what building writes from the book."""
+    rng = random.Random(4)
+    for width, node_size, height in TREE_SHAPES:
+        s = seeded_set(rng, width, node_size, height, 2, 0)
+        name = f"t={width}, l={node_size}, h={height}"
+        leaves = seeded_words(rng, merkle.leaves_length(s))
+        store = built(s, leaves)
+        book = merkle.open_book(s, leaves)
+        answers = [seeded_call(rng, s, store, book) for _ in range(12)]
+        yield name + " answers", [a for a, _ in answers], [b for _, b in answers]
+        yield name + " store", store, built(s, merkle.book_leaves(book))
+
+
+def seeded_call(
+    rng: random.Random, s: ParameterSet, store: list[int], book: list[list[int]]
+) -> tuple[object, object]:
+    """One drawn replacement or push, some of them refused: its answer, the book's."""
+    places = leaf_count(s) + (1 if rng.randrange(6) == 0 else 0)
+    bad = rng.randrange(6) == 0
+    if rng.randrange(2) == 0:
+        size = s.node_size + (1 if rng.randrange(6) == 0 else 0)
+        leaf = seeded_words(rng, size)
+        leaf[-1] = P if bad else leaf[-1]
+        place = rng.randrange(places)
+        answer = merkle.replace(s, store, place, leaf)
+        return (answer, merkle.book_replace(s, book, place, leaf))
+    records = [
+        (rng.randrange(places), seeded_words(rng, 6)) for _ in range(rng.randrange(4))
+    ]
+    for _, words in records:
+        words[rng.randrange(6)] = P if bad else 0
+    return (merkle.push(s, store, records), merkle.book_push(s, book, records))
+
+
+def tree_refusals() -> Iterator[Check]:
+    """The tree entries' rows 10 to 12, the lowest first; lent lists stay as they were."""
+    s = accepted(4, 2, 2, 2, 0, [1, 2, 3, 4], T_CONSTANTS)
+    store = built(s, [1, 2, 3, 4, 5, 6, 7, 8])
+    root = store[-2:]
+    leaf, siblings = [1, 2], opened(s, store, 0)
+    bad = [P, P]
+    six = [P] * 6
+
+    yield "build, leaves", merkle.build(s, [P] * 7, [0] * 14), ("refused", 10)
+    lent = [9] * 13
+    yield "build, store", merkle.build(s, [P] * 8, lent), ("refused", 10)
+    yield "build keeps", lent, [9] * 13
+    lent = [9] * 14
+    yield "build, word", merkle.build(s, [0] * 7 + [P], lent), ("refused", 12)
+    yield "build keeps the store", lent, [9] * 14
+    yield "root, store", merkle.root(s, store + [0]), ("refused", 10)
+    yield "root, word", merkle.root(s, store[:-1] + [P]), ("refused", 12)
+    yield "storeless, leaves", merkle.storeless_root(s, [P] * 9), ("refused", 10)
+
+    lent = [9] * 4
+    yield "opening, store", merkle.opening(s, store[1:], 4, lent), ("refused", 10)
+    yield "opening, buffer", merkle.opening(s, store, 4, [9] * 3), ("refused", 10)
+    spoiled = store[:2] + bad + store[4:]
+    yield "opening, place", merkle.opening(s, spoiled, 4, lent), ("refused", 11)
+    yield "opening, word", merkle.opening(s, spoiled, 0, lent), ("refused", 12)
+    yield "opening keeps", lent, [9] * 4
+    yield "opening, not copied", merkle.opening(s, spoiled, 1, lent), ("done", None)
+
+    yield "reader, length", merkle.read_opening(s, six, 2), ("refused", 10)
+    yield "reader, level", merkle.read_opening(s, [0, 0] + bad, 2), ("refused", 11)
+    yield "reader, word", merkle.read_opening(s, [0, 0] + bad, 1), ("refused", 12)
+    yield "reader, other part", merkle.read_opening(s, [0, 0] + bad, 0), ("words", [0, 0])
+
+    yield "verdict, root", merkle.verify(s, [P], 4, bad, siblings), ("refused", 10)
+    yield "verdict, leaf", merkle.verify(s, root, 4, [P], siblings), ("refused", 10)
+    yield "verdict, siblings", merkle.verify(s, root, 4, bad, [P]), ("refused", 10)
+    yield "verdict, place", merkle.verify(s, root, 4, bad, siblings), ("refused", 11)
+    yield "verdict, word", merkle.verify(s, root, 3, bad, siblings), ("refused", 12)
+
+    lent = list(spoiled)
+    yield "replace, store", merkle.replace(s, lent[1:], 4, bad), ("refused", 10)
+    yield "replace, leaf", merkle.replace(s, lent, 4, [P]), ("refused", 10)
+    yield "replace, place", merkle.replace(s, lent, 4, bad), ("refused", 11)
+    yield "replace, word", merkle.replace(s, lent, 3, bad), ("refused", 12)
+    yield "replace, sibling", merkle.replace(s, lent, 0, leaf), ("refused", 12)
+    yield "replace keeps", lent, spoiled
+    yield "replace, not read", merkle.replace(s, lent, 1, [3, 4]), ("count", 2)
+    yield "replace mends its place", lent, store
+
+    lent = list(spoiled)
+    yield "push, store", merkle.push(s, lent[1:], [(4, six)]), ("refused", 10)
+    yield "push, place", merkle.push(s, lent, [(0, six), (4, six)]), ("refused", 11)
+    yield "push, whole store", merkle.push(s, lent, [(1, [0] * 6)]), ("refused", 12)
+    yield "push keeps", lent, spoiled
+    lent = list(store)
+    got = merkle.push(s, lent, [(0, [0] * 6), (1, [0, P, 0, 0, 0, 0])])
+    yield "push, used word", got, ("refused", 12)
+    yield "push keeps the store", lent, store
+    yield "push, unused words", merkle.push(s, lent, [(0, leaf + bad * 2)]), ("count", 2)
+    yield "push of none", merkle.push(s, lent, []), ("count", 0)
+    yield "push changed nothing", lent, store
+
+
+def extractor() -> Iterator[Check]:
+    """The extractor on known collisions, and its refusals."""
+    s = accepted(
+        collisions.WIDTH,
+        collisions.NODE_SIZE,
+        collisions.HEIGHT,
+        collisions.FULL_ROUNDS,
+        collisions.PARTIAL_ROUNDS,
+        collisions.DIAGONAL,
+        collisions.CONSTANTS,
+    )
+    store = built(s, collisions.LEAVES)
+    root, place = store[-1:], collisions.PLACE
+    own = ([collisions.LEAVES[place]], opened(s, store, place))
+    for level, siblings in collisions.OFFERED:
+        other = (collisions.OTHER_LEAF, siblings)
+        got = merkle.verify(s, root, place, *other)
+        yield f"offered {siblings}", got, ("accepted", None)
+        for first, second in ((other, own), (own, other)):
+            a, b = [9] * 4, [9] * 4
+            got = merkle.extract(s, root, place, *first, *second, a, b)
+            yield "level", got, ("level", level)
+            yield "rows differ", a != b, True
+            yield "rows compress alike", poseidon2.compress(s, a), poseidon2.compress(s, b)
+            at = place // arity(s) ** level % arity(s)
+            others = a[:at] + a[at + 1 :]
+            yield "first row", others, first[1][3 * level : 3 * level + 3]
+            others = b[:at] + b[at + 1 :]
+            yield "second row", others, second[1][3 * level : 3 * level + 3]
+    a, b = [9] * 4, [9] * 4
+    wrong = (collisions.OTHER_LEAF, own[1])
+    cases = [
+        ("first rejected", (root, place, *wrong, *own, a, b), 14),
+        ("second rejected", (root, place, *own, *wrong, a, b), 14),
+        ("equal leaves, rejected", (root, place, *wrong, *wrong, a, b), 14),
+        ("equal leaves", (root, place, *own, *own, a, b), 15),
+        ("a word", (root, place, [P], own[1], *own, a, b), 12),
+        ("place", (root, 16, [P], own[1], *own, a, b), 11),
+        ("buffer", (root, 16, [P], own[1], *own, a, b + [9]), 10),
+        ("root", (root * 2, 16, [P], own[1], *own, a, b), 10),
+        ("leaf", (root, 16, [P, P], own[1], *own, a, b), 10),
+        ("siblings", (root, 16, *own, own[0], own[1][1:], a, b), 10),
+    ]
+    for name, arguments, row in cases:
+        yield name, merkle.extract(s, *arguments), ("refused", row)
+    yield "buffers kept", (a, b), ([9] * 4, [9] * 4)
+
+
+def program_refusals() -> Iterator[Check]:
+    """The root program's rows, the byte count first."""
+    whole = program_input(T_NUMBERS + [1, 0, 0, 0])
+    cases = [
+        ("39 bytes", whole[:39], 10),
+        ("one byte more", whole + b"\0", 10),
+        ("65,544 bytes", bytes(65544), 10),
+        ("65,536 bytes of 0", bytes(65536), 1),
+        ("40 bytes", whole[:40], 6),
+        ("an end within D", whole[:64], 6),
+        ("an end after D", whole[:72], 6),
+        ("an end within C", whole[:128], 6),
+        ("an end after C", whole[:136], 10),
+        ("a leaf short", whole[:-16], 10),
+        ("a word more", whole + bytes(8), 10),
+        ("a low row, cut short", program_input([4, 2, 33, 2, 0]), 5),
+        ("not a word, cut short", program_input([4, 2, 1, 2, 0, P]), 6),
+        ("not a word in D", program_input(T_NUMBERS[:5] + [P] + T_NUMBERS[6:]), 7),
+        ("a leaf of p", program_input(T_NUMBERS + [1, 0, 0, P]), 12),
+    ]
+    for name, data, row in cases:
+        yield name, program.run(data), f"refused {row}\n".encode()
+
+
+GROUPS = [
+    ("worked: field", worked_field),
+    ("worked: layers", worked_layers),
+    ("worked: permutation", worked_permutation),
+    ("worked: tree", worked_tree),
+    ("worked: program", worked_program),
+    ("worked: judge", worked_judge),
+    ("worked: place", worked_place),
+    ("worked: word", worked_word),
+    ("published instances", published_instances),
+    ("field rules", field_rules),
+    ("judge rows", judge_rows),
+    ("handed sets", handed_sets),
+    ("inverse permutations", inverse_permutations),
+    ("trees", trees),
+    ("leaf book", leaf_book),
+    ("tree refusals", tree_refusals),
+    ("extractor", extractor),
+    ("program refusals", program_refusals),
+]
+
+
+def run_group(group: Callable[[], Iterator[Check]]) -> tuple[int, list[str]]:
+    """How many checks of a group passed, and a line for each that failed."""
+    right = 0
+    wrong = []
+    # Each check is compared before the group goes on and changes its lists.
+    for case, got, expected in group():
+        if got == expected:
+            right += 1
+        else:
+            wrong.append(f"  {case}: got {got}, expected {expected}")
+    return (right, wrong)
+
+
+def main() -> int:
+    """Runs every group; answers the exit status."""
+    passed = failed = 0
+    for name, group in GROUPS:
+        right, wrong = run_group(group)
+        passed += right
+        failed += len(wrong)
+        print(f"{name}: {right} passed, {len(wrong)} failed")
+        for line in wrong:
+            print(line)
+    print(f"{passed} passed, {failed} failed")
+    return 1 if failed else 0
+
+
+if __name__ == "__main__":
+    sys.exit(main())
