@@ -1,0 +1,3 @@
+-- The proofs of the claims in specs/, and the laws that the entries' proofs cite.
+pub mod Worked
+mod Operands

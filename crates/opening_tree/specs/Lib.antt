@@ -1,0 +1,3 @@
+-- What each entry replies, and document 01's worked cases.
+pub mod Arithmetic
+pub mod Worked

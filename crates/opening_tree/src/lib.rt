@@ -1,0 +1,11 @@
+// The library's public entries. None presumes anything of its caller: each tests the rows of document 01's table in their order,
+// answers the first that applies with every buffer as it was, or does the work.
+pub mod arithmetic;
+
+pub use arithmetic::Answer;
+pub use arithmetic::difference;
+pub use arithmetic::inverse;
+pub use arithmetic::power;
+pub use arithmetic::product;
+pub use arithmetic::seventh_root;
+pub use arithmetic::sum;
