@@ -1,10 +1,24 @@
--- Lists of words.
+-- Lists of words, and tests of two parts.
 use mathlib.Core.Path.{_≡_, refl, ap, _∙_}
-use mathlib.Core.Bool.{Bool, true, false, _&&_}
-use mathlib.Core.List.{List, [], _∷_}
-use Prim.Native.Nat.{ℕ, _≤_, _<_}
-use borrow.Author.Tests.{lt-ltb, le-ltb}
+use mathlib.Core.Bool.{Bool, true, false, _&&_, false≢true}
+use mathlib.Core.List.{List, [], _∷_, _++_}
+use Prim.Native.Nat.{ℕ, zero, suc, _≤_, _<_}
+use native.Mathlib.Omega.{arith}
+use lib.Dec.{ltb}
+use lib.ListN.{length, getD, take, drop, take-append-drop}
+use borrow.Author.Tests.{lt-ltb, le-ltb, ltb-true}
 use Rattle.modular.specs.Arithmetic.{isWord, allWords}
+
+pub and-true : (a b : Bool) → a ≡ true → b ≡ true → (a && b) ≡ true
+and-true a b e f = rw (e, f)
+
+pub left-true : (a b : Bool) → (a && b) ≡ true → a ≡ true
+left-true true b e = refl
+left-true false b e = e
+
+pub right-true : (a b : Bool) → (a && b) ≡ true → b ≡ true
+right-true true b e = e
+right-true false b e = absurd (false≢true e)
 
 module _ (p : ℕ) where
   pub none-words : allWords p [] ≡ true
@@ -19,3 +33,37 @@ module _ (p : ℕ) where
   pub not-word-first : (a : ℕ) (xs : List ℕ) → p ≤ a → allWords p (a ∷ xs) ≡ false
   unfolding allWords
   not-word-first a xs h = rw (le-ltb a p h)
+
+  pub words-append : (xs ys : List ℕ) → allWords p xs ≡ true → allWords p ys ≡ true → allWords p (xs ++ ys) ≡ true
+  unfolding allWords
+  words-append [] ys e f = f
+  words-append (x ∷ xs) ys e f =
+      and-true (isWord p x) (allWords p (xs ++ ys)) (left-true (isWord p x) (allWords p xs) e) (words-append xs ys (right-true (isWord p x) (allWords p xs) e) f)
+
+  pub words-left : (xs ys : List ℕ) → allWords p (xs ++ ys) ≡ true → allWords p xs ≡ true
+  unfolding allWords
+  words-left [] ys e = refl
+  words-left (x ∷ xs) ys e =
+      and-true (isWord p x) (allWords p xs) (left-true (isWord p x) (allWords p (xs ++ ys)) e) (words-left xs ys (right-true (isWord p x) (allWords p (xs ++ ys)) e))
+
+  pub words-right : (xs ys : List ℕ) → allWords p (xs ++ ys) ≡ true → allWords p ys ≡ true
+  unfolding allWords
+  words-right [] ys e = e
+  words-right (x ∷ xs) ys e = words-right xs ys (right-true (isWord p x) (allWords p (xs ++ ys)) e)
+
+  pub words-at : (xs : List ℕ) (i : ℕ) → allWords p xs ≡ true → i < length xs → getD xs i 0 < p
+  unfolding allWords isWord
+  words-at [] i e b = absurd (omega arith)
+  words-at (x ∷ xs) zero e b = ltb-true x p (left-true (ltb x p) (allWords p xs) e)
+  words-at (x ∷ xs) (suc i) e b = words-at xs i (right-true (ltb x p) (allWords p xs) e) (omega arith)
+
+  pub words-by : (xs : List ℕ) → ((i : ℕ) → i < length xs → getD xs i 0 < p) → allWords p xs ≡ true
+  unfolding allWords isWord
+  words-by [] e = refl
+  words-by (x ∷ xs) e = and-true (ltb x p) (allWords p xs) (lt-ltb x p (e 0 (omega arith))) (words-by xs (λ i b. e (suc i) (omega arith)))
+
+  pub words-take : (n : ℕ) (xs : List ℕ) → allWords p xs ≡ true → allWords p (take n xs) ≡ true
+  words-take n xs e = words-left (take n xs) (drop n xs) (rw (take-append-drop n xs) e)
+
+  pub words-drop : (n : ℕ) (xs : List ℕ) → allWords p xs ≡ true → allWords p (drop n xs) ≡ true
+  words-drop n xs e = words-right (take n xs) (drop n xs) (rw (take-append-drop n xs) e)

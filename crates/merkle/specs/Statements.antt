@@ -1,0 +1,149 @@
+-- What is claimed of every tree, over any compression. The proofs give all of it for every regular shape.
+use mathlib.Core.Path.{_≡_}
+use mathlib.Core.Logic.{_≢_, _↔_}
+use mathlib.Core.Bool.{true}
+use mathlib.Core.List.{List, [], _∷_, _++_}
+use mathlib.Core.Option.{Option, none, some}
+use Prim.Native.Nat.{ℕ, suc, _+_, _*_, _-_, _/_, _%_, _^_, _≤_, _<_}
+use lib.ListN.{length}
+use Rattle.modular.specs.Arithmetic.{allWords}
+use Rattle.merkle.specs.Lists.{put}
+use Rattle.merkle.specs.Levels.{Shape, Regular, KeepsWords, Nodes, node, row, count, build, size, storedLevel, root}
+use Rattle.merkle.specs.Storeless.{nodeOf, rowOf, storelessRoot}
+use Rattle.merkle.specs.Openings.{without, opening, siblingsAt, pathNode, pathRow, accepts}
+use Rattle.merkle.specs.Replacement.{Change, replace, push, changed}
+use Rattle.merkle.specs.Extraction.{Collision, extract}
+
+-- ---- building
+
+-- What document 01 says of a store: its size, its leaves, and that node i of level j + 1 compresses row i of level j.
+pub record IsStore (S : Shape) (h : ℕ) (leaves store : List ℕ) : Type 0 where
+  pub whole : length store ≡ size S h
+  pub bottom : storedLevel S h store 0 ≡ leaves
+  pub each : (j i : ℕ) → j < h → i < count S h (suc j)
+      → node S i (storedLevel S h store (suc j)) ≡ S .compress (row S i (storedLevel S h store j))
+
+-- Building writes such a store, and there is one alone: nothing of a store's old contents is left.
+pub record Building (S : Shape) (h : ℕ) (leaves : List ℕ) : Type 0 where
+  pub isStore : IsStore S h leaves (build S h leaves)
+  pub only : (store : List ℕ) → IsStore S h leaves store → store ≡ build S h leaves
+  -- "the root is its last l words", the level of one node
+  pub rootLevel : root S (build S h leaves) ≡ storedLevel S h (build S h leaves) h
+
+-- "For h = 0 the root is the leaf."
+abbrev pub LeafRoot : Shape → Type 0
+LeafRoot S = (leaf : List ℕ) → length leaf ≡ S .nodeSize → root S (build S 0 leaf) ≡ leaf
+
+-- ---- the storeless root
+
+pub record Storeless (S : Shape) : Type 0 where
+  -- "a node above the leaves is worked out from its row"
+  pub fromRow : (leaves : List ℕ) (j i : ℕ) → nodeOf S leaves (suc j) i ≡ S .compress (rowOf S leaves j (S .arity * i) (S .arity))
+  -- "and a row from its nodes"
+  pub fromNone : (leaves : List ℕ) (j i : ℕ) → rowOf S leaves j i 0 ≡ []
+  pub fromNodes : (leaves : List ℕ) (j i n : ℕ) → rowOf S leaves j i (suc n) ≡ rowOf S leaves j i n ++ nodeOf S leaves j (i + n)
+  -- it is the root of the store that building writes
+  pub agrees : (h : ℕ) (leaves : List ℕ) → Nodes S (S .arity ^ h) leaves → storelessRoot S h leaves ≡ root S (build S h leaves)
+
+-- ---- openings
+
+-- The opening of a place in any store: its length, and its part for each level.
+pub record Opened (S : Shape) (h q : ℕ) (store : List ℕ) : Type 0 where
+  pub long : length (opening S h q store) ≡ h * ((S .arity - 1) * S .nodeSize)
+  pub part : (j : ℕ) → j < h
+      → siblingsAt S (opening S h q store) j ≡ without S (q / S .arity ^ j % S .arity) (row S (q / S .arity ^ j / S .arity) (storedLevel S h store j))
+
+-- A place's own leaf and opening, read from a built store, end in its root.
+pub record OwnOpening (S : Shape) (h q : ℕ) (leaves : List ℕ) : Type 0 where
+  pub ends : pathNode S q (node S q leaves) (opening S h q (build S h leaves)) h ≡ root S (build S h leaves)
+  pub accepted : accepts S h (root S (build S h leaves)) q (node S q leaves) (opening S h q (build S h leaves)) ≡ true
+
+-- "Accepted: the leaf put back among its siblings at each level ends in the given root", and nothing else is.
+abbrev pub Accepting : Shape → Type 0
+Accepting S = (h : ℕ) (root : List ℕ) (q : ℕ) (leaf siblings : List ℕ) → (accepts S h root q leaf siblings ≡ true) ↔ (pathNode S q leaf siblings h ≡ root)
+
+-- ---- replacements and pushes
+
+-- A replacement on a built store leaves the one built from the changed leaves, and its count is h.
+pub record Replaced (S : Shape) (h q : ℕ) (leaves leaf : List ℕ) : Type 0 where
+  pub stored : replace S h q leaf (build S h leaves) .store ≡ build S h (put leaves (q * S .nodeSize) leaf)
+  pub counted : replace S h q leaf (build S h leaves) .made ≡ h
+
+-- each place is below k^h, and each leaf has l words
+abbrev pub Proper : Shape → ℕ → List Change → Type 0
+Proper S h [] = Unit {0}
+Proper S h (c ∷ cs) = (c .place < S .arity ^ h) × (length (c .leaf) ≡ S .nodeSize) × Proper S h cs
+
+-- So does a push, record by record; "the count is h times the list's length".
+pub record Pushed (S : Shape) (h : ℕ) (cs : List Change) (leaves : List ℕ) : Type 0 where
+  pub stored : push S h cs (build S h leaves) .store ≡ build S h (changed S cs leaves)
+  pub counted : push S h cs (build S h leaves) .made ≡ h * length cs
+
+-- "an empty list changes nothing"
+abbrev pub EmptyPush : Shape → Type 0
+EmptyPush S = (h : ℕ) (store : List ℕ) → push S h [] store ≡ record { store = store; made = 0 }
+
+-- ---- the extractor
+
+-- The rows stand at a level below h, differ and compress alike, and at no lower level do two that differ.
+pub record LowestCollision (S : Shape) (h q : ℕ) (a x b y : List ℕ) (c : Collision) : Type 0 where
+  pub below : c .level < h
+  pub first : c .first ≡ pathRow S q a x (c .level)
+  pub second : c .second ≡ pathRow S q b y (c .level)
+  pub differ : c .first ≢ c .second
+  pub alike : S .compress (c .first) ≡ S .compress (c .second)
+  pub lowest : (i : ℕ) → i < c .level → S .compress (pathRow S q a x i) ≡ S .compress (pathRow S q b y i) → pathRow S q a x i ≡ pathRow S q b y i
+
+-- What is extracted is such a collision; where nothing is, no two rows differ and compress alike.
+abbrev pub Extracted : (S : Shape) (h q : ℕ) (a x b y : List ℕ) → Option Collision → Type 0
+Extracted S h q a x b y none =
+    (i : ℕ) → i < h → S .compress (pathRow S q a x i) ≡ S .compress (pathRow S q b y i) → pathRow S q a x i ≡ pathRow S q b y i
+Extracted S h q a x b y (some c) = LowestCollision S h q a x b y c
+
+-- A collision is extracted.
+pub record Extracts (S : Shape) (h q : ℕ) (a x b y : List ℕ) : Type 0 where
+  pub collision : Collision
+  pub given : extract S h q a x b y ≡ some collision
+  pub lowestOne : LowestCollision S h q a x b y collision
+
+-- Two different leaves that end alike at one place, with siblings of the right lengths, show a collision.
+abbrev pub Binding : Shape → Type 0
+Binding S =
+    (h q : ℕ) (a x b y : List ℕ) → length a ≡ S .nodeSize → length b ≡ S .nodeSize
+    → length x ≡ h * ((S .arity - 1) * S .nodeSize) → length y ≡ h * ((S .arity - 1) * S .nodeSize)
+    → a ≢ b → pathNode S q a x h ≡ pathNode S q b y h → Extracts S h q a x b y
+
+-- ---- all of it
+pub record TreeLaws (S : Shape) : Type 0 where
+  pub building : (h : ℕ) (leaves : List ℕ) → Nodes S (S .arity ^ h) leaves → Building S h leaves
+  pub leafRoot : LeafRoot S
+  pub storeless : Storeless S
+  pub opened : (h q : ℕ) (store : List ℕ) → length store ≡ size S h → q < S .arity ^ h → Opened S h q store
+  pub ownOpening : (h q : ℕ) (leaves : List ℕ) → Nodes S (S .arity ^ h) leaves → q < S .arity ^ h → OwnOpening S h q leaves
+  pub accepting : Accepting S
+  pub replaced : (h q : ℕ) (leaves leaf : List ℕ) → Nodes S (S .arity ^ h) leaves → q < S .arity ^ h → length leaf ≡ S .nodeSize
+      → Replaced S h q leaves leaf
+  pub pushed : (h : ℕ) (cs : List Change) (leaves : List ℕ) → Nodes S (S .arity ^ h) leaves → Proper S h cs → Pushed S h cs leaves
+  pub emptyPush : EmptyPush S
+  pub extracted : (h q : ℕ) (a x b y : List ℕ) → Extracted S h q a x b y (extract S h q a x b y)
+  pub binding : Binding S
+
+-- ---- words
+
+-- each leaf's numbers are words
+abbrev pub LeafWords : ℕ → List Change → Type 0
+LeafWords p [] = Unit {0}
+LeafWords p (c ∷ cs) = (allWords p (c .leaf) ≡ true) × LeafWords p cs
+
+-- Where the compression of words gives words, so does every definition.
+pub record WordLaws (p : ℕ) (S : Shape) : Type 0 where
+  pub built : (h : ℕ) (leaves : List ℕ) → Nodes S (S .arity ^ h) leaves → allWords p leaves ≡ true → allWords p (build S h leaves) ≡ true
+  pub opened : (h q : ℕ) (store : List ℕ) → allWords p store ≡ true → allWords p (opening S h q store) ≡ true
+  pub onPath : (h q : ℕ) (leaf siblings : List ℕ) → length leaf ≡ S .nodeSize → length siblings ≡ h * ((S .arity - 1) * S .nodeSize)
+      → allWords p leaf ≡ true → allWords p siblings ≡ true → (j : ℕ) → j ≤ h → allWords p (pathNode S q leaf siblings j) ≡ true
+  pub pushed : (h : ℕ) (cs : List Change) (store : List ℕ) → Proper S h cs → LeafWords p cs → length store ≡ size S h
+      → allWords p store ≡ true → allWords p (push S h cs store .store) ≡ true
+
+-- What the proofs show.
+abbrev pub EveryTree : Type 0
+EveryTree = (S : Shape) → Regular S → TreeLaws S × ((p : ℕ) → KeepsWords p S → WordLaws p S)

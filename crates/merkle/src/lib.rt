@@ -1,0 +1,1 @@
+// Mathematics only: the tree over any compression. The definitions stand in specs/, their laws in proofs/.
