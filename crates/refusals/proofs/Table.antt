@@ -1,10 +1,12 @@
 -- A row that applies is the reply, and one that does not leaves it to the rows below.
 use mathlib.Core.Path.{_≡_, refl, ap, _∙_}
+use mathlib.Core.Logic.{_≢_}
 use mathlib.Core.Bool.{Bool, true, false, cond, not}
-use mathlib.Core.List.{List, [], _∷_}
-use Prim.Native.Nat.{ℕ}
+use mathlib.Core.List.{List, [], _∷_, _++_}
+use Prim.Native.Nat.{ℕ, suc, _<_}
+use native.Mathlib.Omega.{arith}
 use Rattle.modular.specs.Arithmetic.{allWords}
-use Rattle.refusals.specs.Table.{TableRow, row, notWords, Reply, refused, done, reply}
+use Rattle.refusals.specs.Table.{TableRow, row, notWords, firstRow, Reply, refused, done, reply, after}
 
 pub all-passed : (result : List ℕ) → reply [] result ≡ done result
 unfolding reply
@@ -27,3 +29,71 @@ module _ (p : ℕ) (xs : List ℕ) (rows : List TableRow) (result : List ℕ) wh
   pub words-passed : allWords p xs ≡ true → reply (notWords p xs ∷ rows) result ≡ reply rows result
   unfolding notWords
   words-passed e = passed 12 (not (allWords p xs)) rows result (ap not e)
+
+module _ (n : ℕ) (b : Bool) (rows : List TableRow) where
+  pub row-applies : b ≡ true → firstRow (row n b ∷ rows) ≡ n
+  unfolding firstRow
+  row-applies e = rw e
+
+  pub row-passes : b ≡ false → firstRow (row n b ∷ rows) ≡ firstRow rows
+  unfolding firstRow
+  row-passes e = rw e
+
+-- Rows one after another: a row of the front ones is the first of all, and where none of them applies the rest decide.
+pub first-front : (rows more : List TableRow) → firstRow rows ≢ 0 → firstRow (rows ++ more) ≡ firstRow rows
+unfolding firstRow
+first-front [] more o = absurd (o refl)
+first-front (r ∷ rows) more o = at (r .applies) (first-front rows more) o
+  where
+    at : (b : Bool) → (firstRow rows ≢ 0 → firstRow (rows ++ more) ≡ firstRow rows) → cond b (r .number) (firstRow rows) ≢ 0
+        → cond b (r .number) (firstRow (rows ++ more)) ≡ cond b (r .number) (firstRow rows)
+    at true ih o = refl
+    at false ih o = ih o
+
+-- Every row of the table has a number above 0.
+pub data Numbered : List TableRow → Type 0 where
+  none : Numbered []
+  next : {r : TableRow} {rows : List TableRow} → 0 < r .number → Numbered rows → Numbered (r ∷ rows)
+
+pub first-back : (rows more : List TableRow) → Numbered rows → firstRow rows ≡ 0 → firstRow (rows ++ more) ≡ firstRow more
+unfolding firstRow
+first-back [] more N e = refl
+first-back (r ∷ rows) more (next h N) e = at (r .applies) (first-back rows more N) e
+  where
+    at : (b : Bool) → (firstRow rows ≡ 0 → firstRow (rows ++ more) ≡ firstRow more) → cond b (r .number) (firstRow rows) ≡ 0 → cond b (r .number) (firstRow (rows ++ more)) ≡ firstRow more
+    at true ih e = absurd (omega arith)
+    at false ih e = ih e
+
+-- The same of replies.
+pub reply-front : (rows more : List TableRow) (result : List ℕ) → firstRow rows ≢ 0 → reply (rows ++ more) result ≡ refused (firstRow rows)
+unfolding firstRow reply
+reply-front [] more result o = absurd (o refl)
+reply-front (r ∷ rows) more result o = at (r .applies) (reply-front rows more result) o
+  where
+    at : (b : Bool) → (firstRow rows ≢ 0 → reply (rows ++ more) result ≡ refused (firstRow rows)) → cond b (r .number) (firstRow rows) ≢ 0
+        → cond b (refused (r .number)) (reply (rows ++ more) result) ≡ refused (cond b (r .number) (firstRow rows))
+    at true ih o = refl
+    at false ih o = ih o
+
+pub reply-back : (rows more : List TableRow) (result : List ℕ) → Numbered rows → firstRow rows ≡ 0 → reply (rows ++ more) result ≡ reply more result
+unfolding firstRow reply
+reply-back [] more result N e = refl
+reply-back (r ∷ rows) more result (next h N) e = at (r .applies) (reply-back rows more result N) e
+  where
+    at : (b : Bool) → (firstRow rows ≡ 0 → reply (rows ++ more) result ≡ reply more result) → cond b (r .number) (firstRow rows) ≡ 0
+        → cond b (refused (r .number)) (reply (rows ++ more) result) ≡ reply more result
+    at true ih e = absurd (omega arith)
+    at false ih e = ih e
+
+pub numbered-append : {rows more : List TableRow} → Numbered rows → Numbered more → Numbered (rows ++ more)
+numbered-append none M = M
+numbered-append (next h N) M = next h (numbered-append N M)
+
+-- What a buffer holds.
+pub kept-after : {r : Reply} {n : ℕ} (old new : List ℕ) → r ≡ refused n → old ≡ after r old new
+unfolding after
+kept-after {r} {n} old new e = rw e
+
+pub written-after : {r : Reply} {result : List ℕ} (old new : List ℕ) → r ≡ done result → new ≡ after r old new
+unfolding after
+written-after {r} {result} old new e = rw e

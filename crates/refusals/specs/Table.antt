@@ -31,3 +31,8 @@ pub data Reply : Type 0 where
 unfoldable pub reply : List TableRow → List ℕ → Reply
 reply [] result = done result
 reply (r ∷ rs) result = cond (r .applies) (refused (r .number)) (reply rs result)
+
+-- "After a number every lent buffer keeps its contents": what a buffer holds after a reply, of what it held and what the work writes.
+unfoldable pub after : Reply → List ℕ → List ℕ → List ℕ
+after (refused n) old new = old
+after (done result) old new = new

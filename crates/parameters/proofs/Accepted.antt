@@ -1,0 +1,152 @@
+-- What holds of numbers and lists that no row turns down.
+use mathlib.Core.Path.{_≡_, refl, sym, ap, _∙_}
+use mathlib.Core.Logic.{_≢_, _⊎_, inl, inr, ⊎-elim}
+use mathlib.Core.Bool.{Bool, true, false, not, _&&_, _||_, cond, false≢true}
+use mathlib.Core.List.{List, [], _∷_, _++_}
+use Prim.Native.Nat.{ℕ, zero, suc, _+_, _*_, _/_, _%_, _^_, _≤_, _<_}
+use native.Mathlib.Nat.{div-le-self, mul-le-mul}
+use native.Mathlib.Omega.{arith}
+use lib.Dec.{eqb, ltb, lit<}
+use lib.ListN.{length}
+use borrow.Author.Tests.{eqb-true, eqb-false, ltb-false}
+use Rattle.modular.specs.Arithmetic.{allWords}
+use Rattle.modular.proofs.Words.{left-true, right-true}
+use Rattle.refusals.specs.Table.{TableRow, row, firstRow}
+use Rattle.refusals.proofs.Table.{Numbered, none, next}
+use Rattle.poseidon2.specs.Statements.{Width}
+use Rattle.parameters.specs.Rows.{badWidth, badNodeSize, badFullRounds, badPartialRounds, badHeight, constantCount, badLengths, hasZero, badDiagonal, numberRows, listRows, validationRows}
+
+-- of a test of two parts that fails neither holds
+or-false : (a b : Bool) → (a || b) ≡ false → (a ≡ false) × (b ≡ false)
+or-false true b e = absurd (false≢true (sym e))
+or-false false b e = (refl, e)
+
+not-false : (b : Bool) → not b ≡ false → b ≡ true
+not-false true e = refl
+not-false false e = sym e
+
+-- where the first row is 0 no row applies, since no row's number is 0
+pub none-applies : (n : ℕ) (b : Bool) (rows : List TableRow) → firstRow (row (suc n) b ∷ rows) ≡ 0 → (b ≡ false) × (firstRow rows ≡ 0)
+unfolding firstRow
+none-applies n true rows e = absurd (omega arith)
+none-applies n false rows e = (refl, e)
+
+pub width-of : (t : ℕ) → badWidth t ≡ false → Width t
+unfolding badWidth
+width-of t e = of (eqb t 4) (eqb t 8) (eqb t 12) refl refl refl (not-false (eqb t 4 || eqb t 8 || eqb t 12) e)
+  where
+    of : (a b c : Bool) → eqb t 4 ≡ a → eqb t 8 ≡ b → eqb t 12 ≡ c → (a || b || c) ≡ true → Width t
+    of true b c ea eb ec h = inl (eqb-true t 4 ea)
+    of false true c ea eb ec h = inr (inl (eqb-true t 8 eb))
+    of false false c ea eb ec h = inr (inr (eqb-true t 12 (ec ∙ h)))
+
+pub width-fits : (t : ℕ) → Width t → t ≤ 12
+width-fits t (inl e) = omega arith
+width-fits t (inr (inl e)) = omega arith
+width-fits t (inr (inr e)) = omega arith
+
+-- "Node size l divides t; arity k = t / l, at least 2."
+pub record NodeSize (t l : ℕ) : Type 0 where
+  pub positive : l ≢ 0
+  pub divides : t % l ≡ 0
+  pub several : 2 ≤ t / l
+
+pub node-size-of : (t l : ℕ) → badNodeSize t l ≡ false → NodeSize t l
+unfolding badNodeSize
+node-size-of t l e =
+    let a = or-false (eqb l 0 || not (eqb (t % l) 0)) (ltb (t / l) 2) e in
+    let b = or-false (eqb l 0) (not (eqb (t % l) 0)) (a .0) in
+    record {
+      positive = eqb-false l 0 (b .0);
+      divides = eqb-true (t % l) 0 (not-false (eqb (t % l) 0) (b .1));
+      several = ltb-false (t / l) 2 (a .1);
+    }
+
+pub arity-bounds : (t l : ℕ) → badWidth t ≡ false → badNodeSize t l ≡ false → (1 ≤ t / l) × (t / l ≤ 12)
+arity-bounds t l e f = (omega (arith, node-size-of t l f .several), omega (arith, div-le-self t l, width-fits t (width-of t e)))
+
+-- "R_F is even, 2 to 12; R_P is 0 to 64."
+pub record Rounds (rf rp : ℕ) : Type 0 where
+  pub even : rf % 2 ≡ 0
+  pub some : 2 ≤ rf
+  pub few : rf ≤ 12
+  pub fewPartial : rp ≤ 64
+
+pub rounds-of : (rf rp : ℕ) → badFullRounds rf ≡ false → badPartialRounds rp ≡ false → Rounds rf rp
+unfolding badFullRounds badPartialRounds
+rounds-of rf rp e f =
+    let a = or-false (eqb (rf % 2) 1 || eqb rf 0) (ltb 12 rf) e in
+    let b = or-false (eqb (rf % 2) 1) (eqb rf 0) (a .0) in
+    let odd : rf % 2 ≢ 1 = eqb-false (rf % 2) 1 (b .0) in
+    let nought : rf ≢ 0 = eqb-false rf 0 (b .1) in
+    record { even = omega arith; some = omega arith; few = ltb-false 12 rf (a .1); fewPartial = ltb-false 64 rp f }
+
+-- "Height h is 0 to 32 with k^h at most 2^32."
+pub record Height (k h : ℕ) : Type 0 where
+  pub low : h ≤ 32
+  pub leaves : k ^ h ≤ 4294967296
+
+pub height-of : (k h : ℕ) → badHeight k h ≡ false → Height k h
+unfolding badHeight
+height-of k h e =
+    let a = or-false (ltb 32 h) (ltb (2 ^ 32) (k ^ h)) e in
+    record { low = ltb-false 32 h (a .0); leaves = ltb-false 4294967296 (k ^ h) (a .1) }
+
+-- The five numbers of an accepted set.
+pub record Numbers (t l h rf rp : ℕ) : Type 0 where
+  pub width : Width t
+  pub nodeSize : NodeSize t l
+  pub rounds : Rounds rf rp
+  pub height : Height (t / l) h
+
+pub count-fits : (t l h rf rp : ℕ) → Numbers t l h rf rp → constantCount t rf rp ≤ 208
+unfolding constantCount
+count-fits t l h rf rp N = omega (arith, mul-le-mul {n₁ = t} {m₁ = rf} {n₂ = 12} {m₂ = 12} (width-fits t (N .width)) (N .rounds .few), N .rounds .fewPartial)
+
+-- The lists of an accepted set.
+pub record Lists (p : ℕ) (D C : List ℕ) : Type 0 where
+  pub diagonal : allWords p D ≡ true
+  pub constants : allWords p C ≡ true
+  pub noZero : hasZero D ≡ false
+  pub sum : badDiagonal p D ≡ false
+
+-- rows 1 to 5, and those after them
+pub numbers-then : (t l h rf rp : ℕ) (rows : List TableRow) → firstRow (numberRows t l h rf rp ++ rows) ≡ 0 → Numbers t l h rf rp × (firstRow rows ≡ 0)
+unfolding numberRows
+numbers-then t l h rf rp rows e =
+    let r1 = none-applies 0 (badWidth t) _ e in
+    let r2 = none-applies 1 (badNodeSize t l) _ (r1 .1) in
+    let r3 = none-applies 2 (badFullRounds rf) _ (r2 .1) in
+    let r4 = none-applies 3 (badPartialRounds rp) _ (r3 .1) in
+    let r5 = none-applies 4 (badHeight (t / l) h) rows (r4 .1) in (
+      record { width = width-of t (r1 .0); nodeSize = node-size-of t l (r2 .0); rounds = rounds-of rf rp (r3 .0) (r4 .0); height = height-of (t / l) h (r5 .0) },
+      r5 .1,
+    )
+
+pub numbers-of : (t l h rf rp : ℕ) → firstRow (numberRows t l h rf rp) ≡ 0 → Numbers t l h rf rp
+unfolding numberRows
+numbers-of t l h rf rp e = numbers-then t l h rf rp [] e .0
+
+pub numbers-numbered : (t l h rf rp : ℕ) → Numbered (numberRows t l h rf rp)
+unfolding numberRows
+numbers-numbered t l h rf rp = next (lit< tt) (next (lit< tt) (next (lit< tt) (next (lit< tt) (next (lit< tt) none))))
+
+pub lists-of : (p : ℕ) (D C : List ℕ) → firstRow (listRows p D C) ≡ 0 → Lists p D C
+unfolding listRows
+lists-of p D C e =
+    let r7 = none-applies 6 (not (allWords p D && allWords p C)) _ e in
+    let r8 = none-applies 7 (hasZero D) _ (r7 .1) in
+    let r9 = none-applies 8 (badDiagonal p D) _ (r8 .1) in
+    let w = not-false (allWords p D && allWords p C) (r7 .0) in
+    record { diagonal = left-true (allWords p D) (allWords p C) w; constants = right-true (allWords p D) (allWords p C) w; noZero = r8 .0; sum = r9 .0 }
+
+-- The lists of a set that validation accepts have the places that the set has for them.
+pub lists-fit : (p t l h rf rp : ℕ) (D C : List ℕ) → firstRow (validationRows p t l h rf rp D C) ≡ 0 → (length D ≤ 12) × (length C ≤ 208)
+unfolding validationRows badLengths
+lists-fit p t l h rf rp D C e =
+    let n = numbers-then t l h rf rp (row 6 (badLengths t rf rp D C) ∷ listRows p D C) e in
+    let r6 = none-applies 5 (badLengths t rf rp D C) (listRows p D C) (n .1) in
+    let b = not-false (eqb (length D) t && eqb (length C) (constantCount t rf rp)) (r6 .0) in
+    let d : length D ≡ t = eqb-true (length D) t (left-true (eqb (length D) t) (eqb (length C) (constantCount t rf rp)) b) in
+    let c : length C ≡ constantCount t rf rp = eqb-true (length C) (constantCount t rf rp) (right-true (eqb (length D) t) (eqb (length C) (constantCount t rf rp)) b) in
+    (omega (arith, width-fits t (n .0 .width)), omega (arith, count-fits t l h rf rp (n .0)))

@@ -1,0 +1,6 @@
+-- The laws that the proofs of validation cite, and what an accepted set is.
+mod Lists
+mod Diagonal
+mod Heights
+mod Padding
+pub mod Accepted

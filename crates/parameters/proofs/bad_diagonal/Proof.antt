@@ -1,0 +1,105 @@
+use mathlib.Core.Path.{_≡_, sym, ap₂, subst, _∙_}
+use native.Mathlib.Nat.{mod-lt}
+use Rattle.modular.specs.Arithmetic.{add}
+use Prim.Native.Nat.{ℕ, _+_, _-_, _%_, _≤_}
+use native.Mathlib.Omega.{arith}
+use borrow.Author.Needs.{needs}
+use lib.ListN.{length}
+use lib.Dec.{lit<}
+use Rattle.modular.specs.Goldilocks.{p}
+use Rattle.modular.proofs.Goldilocks.{goldilocks}
+use Rattle.modular.proofs.Words.{words-at}
+use Rattle.parameters.proofs.Lists.{nonzero-at}
+use Rattle.parameters.proofs.Diagonal.{Products, none-yet, one-more, refused, accepted}
+use Rattle.parameters.proofs.bad_diagonal.Statement.{statement}
+use Rattle.parameters.proofs.bad_diagonal.Tie as tie
+
+abbrev Inv-loop : tie.InvT-loop
+Inv-loop diagonal all₀ but-one₀ i₀ all but-one i = (i ≤ length diagonal) × Products p goldilocks diagonal i all but-one
+
+abbrev μ-loop : tie.MeasureT-loop
+μ-loop diagonal all₀ but-one₀ i₀ all but-one i = length diagonal - i
+
+loop-holds : tie.Need-loop-holds Inv-loop μ-loop
+loop-holds c = (omega arith, none-yet p goldilocks (c .before .args .diagonal .now))
+
+mul-product-sum : tie.Need-mul-product-sum Inv-loop μ-loop
+mul-product-sum c = search needs
+
+shared-slice-read-product-sum : tie.Need-shared-slice-read-product-sum Inv-loop μ-loop
+shared-slice-read-product-sum c = search needs
+
+product-sum-requires : tie.Need-product-sum-requires Inv-loop μ-loop
+product-sum-requires c κs = search needs
+
+mul-product : tie.Need-mul-product Inv-loop μ-loop
+mul-product c = search needs
+
+shared-slice-read-product : tie.Need-shared-slice-read-product Inv-loop μ-loop
+shared-slice-read-product c = search needs
+
+product-requires : tie.Need-product-requires Inv-loop μ-loop
+product-requires c κs = search needs
+
+add-i : tie.Need-add-i Inv-loop μ-loop
+add-i c = search needs
+
+loop-less : tie.Need-loop-less Inv-loop μ-loop
+loop-less c = search needs
+
+loop-again : tie.Need-loop-again Inv-loop μ-loop
+loop-again c =
+    let s = c .before .before in
+    let l = s .before .before .before in
+    let g = l .before .before in
+    let D = g .args .diagonal .now in
+    (omega arith, one-more p goldilocks D (l .loop .i) (l .loop .all) (l .loop .but-one) (c .product .result) (s .product-sum .result) (omega arith)
+    (nonzero-at D (l .loop .i) (g .pre .1) (omega arith)) (words-at p D (l .loop .i) (g .pre .0) (omega arith)) (l .loop .inv .1) (c .product .ensures) (s .product-sum .ensures))
+
+residue-requires : tie.Need-residue-requires Inv-loop μ-loop
+residue-requires c κs = search needs
+
+residue-requires-2 : tie.Need-residue-requires-2 Inv-loop μ-loop
+residue-requires-2 c κs = search needs
+
+sum-requires : tie.Need-sum-requires Inv-loop μ-loop
+sum-requires c κs = (rw (c .before .residue .ensures) (mod-lt _ (lit< tt)), rw (c .residue2 .ensures) (mod-lt _ (lit< tt)))
+
+-- both products are over the whole list, and the sum is of their residues
+whole : (c : tie.After-sum Inv-loop μ-loop) → Products p goldilocks (c .before .before .before .before .before .before .args .diagonal .now) (length (c .before .before .before .before .before .before .args .diagonal .now)) (c .before .before .before .before .loop .all) (c .before .before .before .before .loop .but-one)
+whole c =
+    let l = c .before .before .before .before in
+    let D = l .before .before .args .diagonal .now in
+    let e : l .loop .i ≡ length D = omega arith in
+    subst (λ (n : ℕ). Products p goldilocks D n (l .loop .all) (l .loop .but-one)) e (l .loop .inv .1)
+
+total : (c : tie.After-sum Inv-loop μ-loop) → c .sum .result ≡ add p (c .before .before .before .before .loop .all % p) (c .before .before .before .before .loop .but-one % p)
+total c = c .sum .ensures ∙ ap₂ (add p) (c .before .before .residue .ensures) (c .before .residue2 .ensures)
+
+returns : tie.Need-returns Inv-loop μ-loop
+returns c = sym (refused p goldilocks _ _ _ (whole (c .before)) (sym (total (c .before)) ∙ c .if1 .taken))
+
+returns-2 : tie.Need-returns-2 Inv-loop μ-loop
+returns-2 c = sym (accepted p goldilocks _ _ _ (whole (c .before)) (λ e. c .if1 .left (total (c .before) ∙ e)))
+
+pub bad-diagonal-spec : {M : Type 1} → statement M
+bad-diagonal-spec =
+    tie.close
+    (tie.spec
+    Inv-loop
+    μ-loop
+    loop-holds
+    mul-product-sum
+    shared-slice-read-product-sum
+    product-sum-requires
+    mul-product
+    shared-slice-read-product
+    product-requires
+    add-i
+    loop-less
+    loop-again
+    residue-requires
+    residue-requires-2
+    sum-requires
+    returns
+    returns-2)

@@ -1,0 +1,3 @@
+-- The parameter set and the rows that turn one down.
+pub mod ParameterSet
+pub mod Rows

@@ -1,0 +1,55 @@
+-- Document 01, "Set": the parameter set, what is read of one that is handed in, and what validation answers.
+use mathlib.Core.Bool.{cond}
+use mathlib.Core.List.{List, [], _∷_, _++_}
+use Prim.Native.Nat.{ℕ, _-_, _/_}
+use lib.Dec.{eqb}
+use lib.ListN.{length, take, replicate}
+use Rattle.refusals.specs.Table.{TableRow, firstRow}
+use Rattle.parameters.specs.Rows.{constantCount, numberRows, listRows, validationRows}
+use Rattle.parameters.specs.declared.ParameterSet.{ParameterSet}
+use Rattle.parameters.specs.declared.Validation.{Validation}
+
+-- A list in n places, "zero beyond its own count".
+unfoldable pub padded : ℕ → List ℕ → List ℕ
+padded n xs = xs ++ replicate (n - length xs) 0
+
+-- "An accepted set holds the five numbers and both lists as they were handed in; it holds places for 208 constants and 12 for D."
+unfoldable pub held : ℕ → ℕ → ℕ → ℕ → ℕ → List ℕ → List ℕ → ParameterSet
+held t l h rf rp D C = record {
+  width = t;
+  «node_size» = l;
+  height = h;
+  «full_rounds» = rf;
+  «partial_rounds» = rp;
+  diagonal = padded 12 D;
+  constants = padded 208 C;
+}
+
+-- A refusal: the row's number, and zeros for the set.
+unfoldable pub refusal : ℕ → Validation
+refusal number = record {
+  number = number;
+  parameters = record {
+    width = 0;
+    «node_size» = 0;
+    height = 0;
+    «full_rounds» = 0;
+    «partial_rounds» = 0;
+    diagonal = replicate 12 0;
+    constants = replicate 208 0;
+  };
+}
+
+-- What validation answers: the first row that applies, or 0 and the set.
+unfoldable pub validation : ℕ → ℕ → ℕ → ℕ → ℕ → ℕ → List ℕ → List ℕ → Validation
+validation p t l h rf rp D C =
+    let number = firstRow (validationRows p t l h rf rp D C) in
+    cond (eqb number 0) (record { number = 0; parameters = held t l h rf rp D C }) (refusal number)
+
+-- "Every other entry judges the numbers and used words of the set it is handed by the same rows; places beyond the used ones aren't read."
+unfoldable pub heldRows : ℕ → ℕ → ℕ → ℕ → ℕ → ℕ → List ℕ → List ℕ → List TableRow
+heldRows p t l h rf rp D C = numberRows t l h rf rp ++ listRows p (take t D) (take (constantCount t rf rp) C)
+
+unfoldable pub setRows : ℕ → ParameterSet → List TableRow
+setRows p s =
+    heldRows p (s .width) (s .«node_size») (s .height) (s .«full_rounds») (s .«partial_rounds») (s .diagonal) (s .constants)

@@ -1,0 +1,67 @@
+-- Document 01, "Turned back", rows 1 to 9: each condition, and the rows of a set in their order.
+use mathlib.Core.Bool.{Bool, true, false, not, _&&_, _||_}
+use mathlib.Core.List.{List, [], _∷_, _++_}
+use Prim.Native.Nat.{ℕ, _+_, _*_, _/_, _%_, _^_}
+use lib.Dec.{eqb, ltb}
+use lib.ListN.{length}
+use Rattle.modular.specs.Arithmetic.{allWords}
+use Rattle.refusals.specs.Table.{TableRow, row}
+use Rattle.poseidon2.specs.Layers.{sum}
+use Rattle.poseidon2.specs.Inverse.{inverses}
+
+-- "t not 4, 8, 12"
+unfoldable pub badWidth : ℕ → Bool
+badWidth t = not (eqb t 4 || eqb t 8 || eqb t 12)
+
+-- "l is 0, doesn't divide t, or k below 2", where k is t / l
+unfoldable pub badNodeSize : ℕ → ℕ → Bool
+badNodeSize t l = eqb l 0 || not (eqb (t % l) 0) || ltb (t / l) 2
+
+-- "R_F odd, 0 or above 12"
+unfoldable pub badFullRounds : ℕ → Bool
+badFullRounds rf = eqb (rf % 2) 1 || eqb rf 0 || ltb 12 rf
+
+-- "R_P above 64"
+unfoldable pub badPartialRounds : ℕ → Bool
+badPartialRounds rp = ltb 64 rp
+
+-- "h above 32 or k^h above 2^32"
+unfoldable pub badHeight : ℕ → ℕ → Bool
+badHeight k h = ltb 32 h || ltb (2 ^ 32) (k ^ h)
+
+-- "C is t×R_F + R_P words"
+unfoldable pub constantCount : ℕ → ℕ → ℕ → ℕ
+constantCount t rf rp = t * rf + rp
+
+-- "D or C of wrong length"
+unfoldable pub badLengths : ℕ → ℕ → ℕ → List ℕ → List ℕ → Bool
+badLengths t rf rp D C = not (eqb (length D) t && eqb (length C) (constantCount t rf rp))
+
+-- "a word of D is 0"
+unfoldable pub hasZero : List ℕ → Bool
+hasZero [] = false
+hasZero (d ∷ ds) = eqb d 0 || hasZero ds
+
+-- "1 plus the inverses of all D is 0"
+unfoldable pub badDiagonal : ℕ → List ℕ → Bool
+badDiagonal p D = eqb ((1 + sum (inverses p D)) % p) 0
+
+-- The rows of the five numbers.
+unfoldable pub numberRows : ℕ → ℕ → ℕ → ℕ → ℕ → List TableRow
+numberRows t l h rf rp =
+    row 1 (badWidth t) ∷
+    row 2 (badNodeSize t l) ∷
+    row 3 (badFullRounds rf) ∷
+    row 4 (badPartialRounds rp) ∷
+    row 5 (badHeight (t / l) h) ∷ []
+
+-- "a number in D or C not below p", and the rows of D. The lists are those of the used words.
+unfoldable pub listRows : ℕ → List ℕ → List ℕ → List TableRow
+listRows p D C =
+    row 7 (not (allWords p D && allWords p C)) ∷
+    row 8 (hasZero D) ∷
+    row 9 (badDiagonal p D) ∷ []
+
+-- The rows by which validation goes: of the five numbers, of the lists' lengths, of the lists.
+unfoldable pub validationRows : ℕ → ℕ → ℕ → ℕ → ℕ → ℕ → List ℕ → List ℕ → List TableRow
+validationRows p t l h rf rp D C = numberRows t l h rf rp ++ (row 6 (badLengths t rf rp D C) ∷ listRows p D C)

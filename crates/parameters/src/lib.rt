@@ -1,0 +1,329 @@
+// The parameter set (document 01's set) and its validation (document 01's judge).
+ghost use mathlib.Core.Path.{_≡_};
+ghost use mathlib.Core.Bool.{true, false};
+ghost use Prim.Native.Nat.{_≤_};
+ghost use lib.ListN.{length};
+ghost use Rattle.modular.specs.Arithmetic.{allWords};
+ghost use Rattle.modular.specs.Goldilocks.{p};
+ghost use Rattle.refusals.specs.Table.{firstRow};
+ghost use Rattle.parameters.specs.ParameterSet.{padded, refusal, validation, heldRows};
+ghost use Rattle.parameters.specs.Rows.{badWidth, badNodeSize, badFullRounds, badPartialRounds, badHeight, badLengths, hasZero, badDiagonal, numberRows, listRows, validationRows};
+
+const P: u64 = 18446744069414584321;
+
+pub struct ParameterSet {
+    pub width: u64,
+    pub node_size: u64,
+    pub height: u64,
+    pub full_rounds: u64,
+    pub partial_rounds: u64,
+    pub diagonal: [u64; 12],
+    pub constants: [u64; 208],
+}
+
+// The number of the row that turns a set down, or 0 and the set. (An enum cannot hold the set's arrays.)
+pub struct Validation {
+    pub number: u8,
+    pub parameters: ParameterSet,
+}
+
+fn bad_width(width: u64) -> bool
+    ensures { λ r. ⌜ r ≡ badWidth width ⌝ }
+{
+    if width == 4 {
+        return false;
+    }
+    if width == 8 {
+        return false;
+    }
+    if width == 12 {
+        return false;
+    }
+    true
+}
+
+fn bad_node_size(width: u64, node_size: u64) -> bool
+    ensures { λ r. ⌜ r ≡ badNodeSize width «node_size» ⌝ }
+{
+    if node_size == 0 {
+        return true;
+    }
+    if width % node_size != 0 {
+        return true;
+    }
+    if width / node_size < 2 {
+        return true;
+    }
+    false
+}
+
+fn bad_full_rounds(full_rounds: u64) -> bool
+    ensures { λ r. ⌜ r ≡ badFullRounds «full_rounds» ⌝ }
+{
+    if full_rounds % 2 == 1 {
+        return true;
+    }
+    if full_rounds == 0 {
+        return true;
+    }
+    if 12 < full_rounds {
+        return true;
+    }
+    false
+}
+
+fn bad_partial_rounds(partial_rounds: u64) -> bool
+    ensures { λ r. ⌜ r ≡ badPartialRounds «partial_rounds» ⌝ }
+{
+    if 64 < partial_rounds {
+        return true;
+    }
+    false
+}
+
+// Whether a tree of this arity and height has over 2^32 leaves. The count stops where it passes 2^32, so nothing wraps.
+fn bad_height(arity: u64, height: u64) -> bool
+    requires { ⌜ (1 ≤ arity) × (arity ≤ 12) ⌝ }
+    ensures { λ r. ⌜ r ≡ badHeight arity height ⌝ }
+{
+    if 32 < height {
+        return true;
+    }
+    let mut leaves: u64 = 1;
+    let mut i: u64 = 0;
+    while i < height {
+        leaves *= arity;
+        if 4294967296 < leaves {
+            return true;
+        }
+        i += 1;
+    }
+    false
+}
+
+// Whether every number is a word.
+pub fn all_words(numbers: &[u64]) -> bool
+    ensures { λ r. ⌜ r ≡ allWords p (now (numbers .entry)) ⌝ }
+{
+    let mut i = 0;
+    while i < numbers.len() {
+        if P <= numbers[i] {
+            return false;
+        }
+        i += 1;
+    }
+    true
+}
+
+fn has_zero(numbers: &[u64]) -> bool
+    ensures { λ r. ⌜ r ≡ hasZero (now (numbers .entry)) ⌝ }
+{
+    let mut i = 0;
+    while i < numbers.len() {
+        if numbers[i] == 0 {
+            return true;
+        }
+        i += 1;
+    }
+    false
+}
+
+// Whether 1 plus the inverses of all D is 0, without an inversion: that sum times the product of all D is the product plus the sum
+// of all products that leave one out, two products a word.
+fn bad_diagonal(diagonal: &[u64]) -> bool
+    requires { ⌜ (allWords p (now diagonal) ≡ true) × (hasZero (now diagonal) ≡ false) ⌝ }
+    ensures { λ r. ⌜ r ≡ badDiagonal p (now (diagonal .entry)) ⌝ }
+{
+    let mut all: u64 = 1;
+    let mut but_one: u64 = 0;
+    let mut i = 0;
+    while i < diagonal.len() {
+        but_one = field::lazy::product_sum(but_one, diagonal[i], all);
+        all = field::lazy::product(all, diagonal[i]);
+        i += 1;
+    }
+    if field::sum(field::lazy::residue(all), field::lazy::residue(but_one)) == 0 {
+        return true;
+    }
+    false
+}
+
+// The first of rows 1 to 5 that applies, or 0.
+fn row_of_numbers(width: u64, node_size: u64, height: u64, full_rounds: u64, partial_rounds: u64) -> u8
+    ensures { λ r. ⌜ r ≡ firstRow (numberRows width «node_size» height «full_rounds» «partial_rounds») ⌝ }
+{
+    if bad_width(width) {
+        return 1;
+    }
+    if bad_node_size(width, node_size) {
+        return 2;
+    }
+    if bad_full_rounds(full_rounds) {
+        return 3;
+    }
+    if bad_partial_rounds(partial_rounds) {
+        return 4;
+    }
+    if bad_height(width / node_size, height) {
+        return 5;
+    }
+    0
+}
+
+// The first of rows 7 to 9 that applies, or 0.
+fn row_of_lists(diagonal: &[u64], constants: &[u64]) -> u8
+    ensures { λ r. ⌜ r ≡ firstRow (listRows p (now (diagonal .entry)) (now (constants .entry))) ⌝ }
+{
+    if !all_words(diagonal) {
+        return 7;
+    }
+    if !all_words(constants) {
+        return 7;
+    }
+    if has_zero(diagonal) {
+        return 8;
+    }
+    if bad_diagonal(diagonal) {
+        return 9;
+    }
+    0
+}
+
+// Whether D or C has another length than the numbers say.
+fn bad_lengths(width: u64, full_rounds: u64, partial_rounds: u64, diagonal: &[u64], constants: &[u64]) -> bool
+    requires { ⌜ (width ≤ 12) × («full_rounds» ≤ 12) × («partial_rounds» ≤ 64) ⌝ }
+    ensures { λ r. ⌜ r ≡ badLengths width «full_rounds» «partial_rounds» (now (diagonal .entry)) (now (constants .entry)) ⌝ }
+{
+    if diagonal.len() as u64 != width {
+        return true;
+    }
+    if constants.len() as u64 != width * full_rounds + partial_rounds {
+        return true;
+    }
+    false
+}
+
+// The first of rows 1 to 9 that applies, or 0.
+fn row_of(
+    width: u64,
+    node_size: u64,
+    height: u64,
+    full_rounds: u64,
+    partial_rounds: u64,
+    diagonal: &[u64],
+    constants: &[u64],
+) -> u8
+    ensures {
+        λ r. ⌜ r ≡ firstRow (validationRows p width «node_size» height «full_rounds» «partial_rounds» (now (diagonal .entry)) (now (constants .entry))) ⌝
+    }
+{
+    let row = row_of_numbers(width, node_size, height, full_rounds, partial_rounds);
+    if row != 0 {
+        return row;
+    }
+    if bad_lengths(width, full_rounds, partial_rounds, diagonal, constants) {
+        return 6;
+    }
+    row_of_lists(diagonal, constants)
+}
+
+// The places for D: the list, and zeros beyond it.
+fn hold_diagonal(list: &[u64]) -> [u64; 12]
+    requires { ⌜ length (now list) ≤ 12 ⌝ }
+    ensures { λ r. ⌜ r ≡ padded 12 (now (list .entry)) ⌝ }
+{
+    let mut places = [0u64; 12];
+    let mut i = 0;
+    while i < list.len() {
+        places[i] = list[i];
+        i += 1;
+    }
+    places
+}
+
+// The places for the constants: the list, and zeros beyond it.
+fn hold_constants(list: &[u64]) -> [u64; 208]
+    requires { ⌜ length (now list) ≤ 208 ⌝ }
+    ensures { λ r. ⌜ r ≡ padded 208 (now (list .entry)) ⌝ }
+{
+    let mut places = [0u64; 208];
+    let mut i = 0;
+    while i < list.len() {
+        places[i] = list[i];
+        i += 1;
+    }
+    places
+}
+
+fn refused(number: u8) -> Validation
+    ensures { λ r. ⌜ r ≡ refusal number ⌝ }
+{
+    Validation {
+        number: number,
+        parameters: ParameterSet {
+            width: 0,
+            node_size: 0,
+            height: 0,
+            full_rounds: 0,
+            partial_rounds: 0,
+            diagonal: [0; 12],
+            constants: [0; 208],
+        },
+    }
+}
+
+// The row that turns these numbers and lists down, or the set that holds them.
+pub fn validate(
+    width: u64,
+    node_size: u64,
+    height: u64,
+    full_rounds: u64,
+    partial_rounds: u64,
+    diagonal: &[u64],
+    constants: &[u64],
+) -> Validation
+    ensures {
+        λ r. ⌜ r ≡ validation p width «node_size» height «full_rounds» «partial_rounds» (now (diagonal .entry)) (now (constants .entry)) ⌝
+    }
+{
+    let number = row_of(width, node_size, height, full_rounds, partial_rounds, diagonal, constants);
+    if number != 0 {
+        return refused(number);
+    }
+    Validation {
+        number: 0,
+        parameters: ParameterSet {
+            width: width,
+            node_size: node_size,
+            height: height,
+            full_rounds: full_rounds,
+            partial_rounds: partial_rounds,
+            diagonal: hold_diagonal(diagonal),
+            constants: hold_constants(constants),
+        },
+    }
+}
+
+// The first of the rows that applies to a set that is handed in, or 0. Its places beyond the used ones are not read.
+pub fn row_of_set(
+    width: u64,
+    node_size: u64,
+    height: u64,
+    full_rounds: u64,
+    partial_rounds: u64,
+    diagonal: &[u64],
+    constants: &[u64],
+) -> u8
+    requires { ⌜ (length (now diagonal) ≡ 12) × (length (now constants) ≡ 208) ⌝ }
+    ensures {
+        λ r. ⌜ r ≡ firstRow (heldRows p width «node_size» height «full_rounds» «partial_rounds» (now (diagonal .entry)) (now (constants .entry))) ⌝
+    }
+{
+    let row = row_of_numbers(width, node_size, height, full_rounds, partial_rounds);
+    if row != 0 {
+        return row;
+    }
+    let used = width as usize;
+    let count = (width * full_rounds + partial_rounds) as usize;
+    row_of_lists(&diagonal[..used], &constants[..count])
+}
