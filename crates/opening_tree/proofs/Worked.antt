@@ -1,19 +1,23 @@
 -- The worked cases hold of the definitions.
-use mathlib.Core.Path.{_≡_, refl, sym, ap, _∙_}
-use mathlib.Core.List.{List, [], _∷_}
-use Prim.Native.Nat.{ℕ, _-_}
-use native.Mathlib.Omega.{arith}
+use mathlib.Core.Path.{_≡_, refl, sym, ap}
+use mathlib.Core.List.{[], _∷_}
+use Prim.Native.Nat.{ℕ}
 use lib.Dec.{lit<}
-use Rattle.modular.specs.Arithmetic.{sub, mul, inverse}
+use Rattle.modular.specs.Arithmetic.{add, sub, mul, pow, inverse}
 use Rattle.modular.specs.Goldilocks.{p}
 use Rattle.modular.proofs.Goldilocks.{goldilocks-laws}
+use Rattle.poseidon2.specs.Layers.{addLists, sum, dot, rowsTimes, m4Rows, m4, blocks, joinBlocks, sumBlocks, addToEach, mixed, external, plusMultiples, internal}
+use Rattle.poseidon2.specs.Rounds.{addConstants, seventhPowers, fullRound, raiseFirst, partialRound, fullRounds, partialRounds, permuteAt, permute}
+use Rattle.poseidon2.specs.Compression.{compress}
 use Rattle.opening_tree.specs.Worked.{Worked}
 
--- the product with 2 is 1, and that is said of one word alone
+-- the product with 2 is 1, and that is so of one word alone
 inverse-of-two : inverse p 2 ≡ 9223372034707292161
 unfolding mul
 inverse-of-two = sym (goldilocks-laws .inverses .only 2 9223372034707292161 (lit< tt) (lit< tt) (lit< tt) refl)
 
 pub worked : Worked
-unfolding mul sub
-worked = (refl, (refl, (refl, (refl, (ap (λ (x : ℕ). x ∷ []) inverse-of-two, tt)))))
+unfolding add sub mul pow addLists sum dot rowsTimes m4Rows m4 blocks joinBlocks sumBlocks addToEach mixed external plusMultiples internal addConstants seventhPowers fullRound raiseFirst partialRound fullRounds partialRounds permuteAt permute compress
+worked =
+    (refl, (refl, (refl, (refl, (ap (λ (x : ℕ). x ∷ []) inverse-of-two,
+    (refl, (refl, (refl, (refl, (refl, (refl, (refl, tt))))))))))))

@@ -1,9 +1,12 @@
 -- Document 01, "Worked by hand": the cases marked *, in one list, and the claim that all of them hold.
 use mathlib.Core.Path.{_≡_}
-use mathlib.Core.List.{List, [], _∷_}
+use mathlib.Core.List.{List, [], _∷_, _++_}
 use Prim.Native.Nat.{ℕ, _+_, _-_, _^_}
 use Rattle.modular.specs.Arithmetic.{sub, mul, inverse}
 use Rattle.modular.specs.Goldilocks.{p}
+use Rattle.poseidon2.specs.Layers.{m4, external, internal}
+use Rattle.poseidon2.specs.Rounds.{permute}
+use Rattle.poseidon2.specs.Compression.{compress}
 
 -- What the definitions give, and what the document says.
 pub record Case : Type 0 where
@@ -13,15 +16,41 @@ pub record Case : Type 0 where
 abbrev case : List ℕ → List ℕ → Case
 case g s = record { given = g; said = s }
 
--- The field.
-abbrev pub starred : List Case
-starred =
+abbrev pub fieldCases : List Case
+fieldCases =
     case (mul p (p - 1) (p - 1) ∷ []) (1 ∷ []) ∷
     case (mul p (2 ^ 32) (2 ^ 32) ∷ []) (4294967295 ∷ []) ∷
     case (mul p (2 ^ 48) (2 ^ 48) ∷ []) ((p - 1) ∷ []) ∷
     case (sub p 0 1 ∷ []) ((p - 1) ∷ []) ∷
-    case (inverse p 2 ∷ []) (9223372034707292161 ∷ []) ∷
-    []
+    case (inverse p 2 ∷ []) (9223372034707292161 ∷ []) ∷ []
+
+-- "T: t=4, l=2, h=1, R_F=2, R_P=0, D=(1,2,3,4), C=(0,0,0,0, p-505316, p-410806, p-127289, p-94519)."
+abbrev pub tDiagonal : List ℕ
+tDiagonal = 1 ∷ 2 ∷ 3 ∷ 4 ∷ []
+
+abbrev pub tConstants : List ℕ
+tConstants = 0 ∷ 0 ∷ 0 ∷ 0 ∷ (p - 505316) ∷ (p - 410806) ∷ (p - 127289) ∷ (p - 94519) ∷ []
+
+-- "U: as T, R_P=1, C=(0,0,0,0, p-505316, p-632615, p-1454227, p-1014482, p-1010691)."
+abbrev pub uConstants : List ℕ
+uConstants = 0 ∷ 0 ∷ 0 ∷ 0 ∷ (p - 505316) ∷ (p - 632615) ∷ (p - 1454227) ∷ (p - 1014482) ∷ (p - 1010691) ∷ []
+
+abbrev one : List ℕ
+one = 1 ∷ 0 ∷ 0 ∷ 0 ∷ []
+
+-- Under T and U half of R_F is 1.
+abbrev pub permutationCases : List Case
+permutationCases =
+    case (m4 p one) (5 ∷ 4 ∷ 1 ∷ 1 ∷ []) ∷
+    case (external p (1 ∷ 0 ∷ 0 ∷ 0 ∷ 0 ∷ 0 ∷ 0 ∷ 0 ∷ [])) (10 ∷ 8 ∷ 2 ∷ 2 ∷ 5 ∷ 4 ∷ 1 ∷ 1 ∷ []) ∷
+    case (internal p tDiagonal one) (2 ∷ 1 ∷ 1 ∷ 1 ∷ []) ∷
+    case (permute p 1 0 tDiagonal tConstants one) (5 ∷ 4 ∷ 1 ∷ 1 ∷ []) ∷
+    case (compress p 2 1 0 tDiagonal tConstants one) (6 ∷ 4 ∷ []) ∷
+    case (permute p 1 1 tDiagonal uConstants one) (5 ∷ 4 ∷ 1 ∷ 1 ∷ []) ∷
+    case (compress p 2 1 1 tDiagonal uConstants one) (6 ∷ 4 ∷ []) ∷ []
+
+abbrev pub starred : List Case
+starred = fieldCases ++ permutationCases
 
 abbrev pub AllHold : List Case → Type 0
 AllHold [] = Unit {0}

@@ -1,6 +1,8 @@
 // The library's public entries. None presumes anything of its caller: each tests the rows of document 01's table in their order,
 // answers the first that applies with every buffer as it was, or does the work.
 pub mod arithmetic;
+pub mod outcome;
+pub mod sets;
 
 pub use arithmetic::Answer;
 pub use arithmetic::difference;
@@ -9,3 +11,5 @@ pub use arithmetic::power;
 pub use arithmetic::product;
 pub use arithmetic::seventh_root;
 pub use arithmetic::sum;
+pub use outcome::Outcome;
+pub use sets::validate;

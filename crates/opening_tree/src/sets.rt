@@ -1,0 +1,41 @@
+// Parameter sets: validation, and the row that turns down one that is handed in.
+ghost use mathlib.Core.Path.{_≡_};
+ghost use Rattle.modular.specs.Goldilocks.{p};
+ghost use Rattle.refusals.specs.Table.{firstRow};
+ghost use Rattle.parameters.specs.ParameterSet.{validation, setRows};
+use parameters::ParameterSet;
+use parameters::Validation;
+
+// The set of these five numbers and two lists, or the first of rows 1 to 9 that applies.
+pub fn validate(
+    width: u64,
+    node_size: u64,
+    height: u64,
+    full_rounds: u64,
+    partial_rounds: u64,
+    diagonal: &[u64],
+    constants: &[u64],
+) -> Validation
+    ensures {
+        λ r. ⌜ r ≡ validation p width «node_size» height «full_rounds» «partial_rounds» (now (diagonal .entry)) (now (constants .entry)) ⌝
+    }
+{
+    parameters::validate(width, node_size, height, full_rounds, partial_rounds, diagonal, constants)
+}
+
+// The first of the rows that applies to a set that is handed in, or 0.
+pub fn row_of(set: ParameterSet) -> u8
+    ensures { λ r. ⌜ r ≡ firstRow (setRows p set) ⌝ }
+{
+    let diagonal = set.diagonal;
+    let constants = set.constants;
+    parameters::row_of_set(
+        set.width,
+        set.node_size,
+        set.height,
+        set.full_rounds,
+        set.partial_rounds,
+        &diagonal,
+        &constants,
+    )
+}
