@@ -1,0 +1,3 @@
+-- The laws that the proofs of the rounds and of the permutation cite.
+mod Turns
+mod Slices
