@@ -1,0 +1,8 @@
+-- The laws that the proofs of the inverse permutation's functions cite.
+mod Words
+mod Blocks
+mod Placewise
+mod Sums
+mod Parts
+pub mod Kept
+mod Rounds

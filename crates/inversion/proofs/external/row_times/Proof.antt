@@ -1,0 +1,69 @@
+use mathlib.Core.Path.{ap₂, _∙_}
+use borrow.Author.Needs.{needs}
+use Rattle.modular.specs.Arithmetic.{add}
+use Rattle.modular.specs.Goldilocks.{p}
+use Rattle.inversion.proofs.Words.{positive, add-word, mul-word}
+use Rattle.inversion.proofs.Blocks.{row-four}
+use Rattle.inversion.proofs.external.row_times.Statement.{statement}
+use Rattle.inversion.proofs.external.row_times.Tie as tie
+
+array-read-product : tie.Need-array-read-product
+array-read-product c = search needs
+
+product-requires : tie.Need-product-requires
+product-requires c κs = search needs
+
+array-read-product-2 : tie.Need-array-read-product-2
+array-read-product-2 c = search needs
+
+product-requires-2 : tie.Need-product-requires-2
+product-requires-2 c κs = search needs
+
+sum-requires : tie.Need-sum-requires
+sum-requires c κs = (rw (c .before .product .ensures) (mul-word _ _), rw (c .product2 .ensures) (mul-word _ _))
+
+array-read-product-3 : tie.Need-array-read-product-3
+array-read-product-3 c = search needs
+
+product-requires-3 : tie.Need-product-requires-3
+product-requires-3 c κs = search needs
+
+array-read-product-4 : tie.Need-array-read-product-4
+array-read-product-4 c = search needs
+
+product-requires-4 : tie.Need-product-requires-4
+product-requires-4 c κs = search needs
+
+sum-requires-2 : tie.Need-sum-requires-2
+sum-requires-2 c κs = (rw (c .before .product3 .ensures) (mul-word _ _), rw (c .product4 .ensures) (mul-word _ _))
+
+sum-requires-3 : tie.Need-sum-requires-3
+sum-requires-3 c κs = (rw (c .before .before .before .sum .ensures) (add-word _ _), rw (c .sum2 .ensures) (add-word _ _))
+
+returns : tie.Need-returns
+returns c =
+    let a = c .before .before .before .before .before .before .before .args in
+    let x = a .t5 in
+    let s = c .before .before .before .before in
+    c .sum3 .ensures
+    ∙ ap₂ (add p)
+    (s .sum .ensures ∙ ap₂ (add p) (s .before .before .product .ensures) (s .before .product2 .ensures))
+    (c .before .sum2 .ensures ∙ ap₂ (add p) (c .before .before .before .product3 .ensures) (c .before .before .product4 .ensures))
+    ∙ row-four positive (a .a) (a .b) (a .c) (a .d) x
+
+pub row-times-spec : {M : Type 1} → statement M
+row-times-spec =
+    tie.close
+    (tie.spec
+    array-read-product
+    product-requires
+    array-read-product-2
+    product-requires-2
+    sum-requires
+    array-read-product-3
+    product-requires-3
+    array-read-product-4
+    product-requires-4
+    sum-requires-2
+    sum-requires-3
+    returns)

@@ -1,0 +1,86 @@
+-- The loop's invariant: the blocks before place i are done.
+use mathlib.Core.Path.{sym, ap, subst, _∙_}
+use mathlib.Core.List.{List, _++_}
+use Prim.Native.Nat.{ℕ, _+_, _-_, _≤_}
+use native.Mathlib.Omega.{arith}
+use lib.ListN.{length, take, drop}
+use Rattle.modular.specs.Goldilocks.{p}
+use Rattle.poseidon2.specs.Layers.{addLists}
+use Rattle.poseidon2.specs.Inverse.{unm4}
+use Rattle.poseidon2.specs.Statements.{Words}
+use Rattle.inversion.proofs.Words.{positive}
+use Rattle.inversion.proofs.Blocks.{Each, each-none, each-more, each-all, block-words}
+use Rattle.inversion.proofs.external.unm4_each.Statement.{statement}
+use Rattle.inversion.proofs.external.unm4_each.Tie as tie
+
+abbrev Inv-loop : tie.InvT-loop
+Inv-loop block state₀ i₀ state i = (i ≤ length state₀) × Each p block state₀ state i
+
+abbrev μ-loop : tie.MeasureT-loop
+μ-loop block state₀ i₀ state i = length state₀ - i
+
+loop-holds : tie.Need-loop-holds Inv-loop μ-loop
+loop-holds c =
+    let s = c .before in
+    (omega arith, each-none p (s .args .block) (s .args .state .now))
+
+block-at-requires : tie.Need-block-at-requires Inv-loop μ-loop
+block-at-requires c κs = omega arith
+
+add-blocks-requires : tie.Need-add-blocks-requires Inv-loop μ-loop
+add-blocks-requires c κs =
+    let l = c .before .before .before in
+    let s = l .before .before in
+    (subst (Words p) (sym (c .block-at .ensures ∙ ap (take 4) (l .loop .inv .1 .left))) (block-words positive (l .loop .i) (s .args .state .now) (s .pre .2)), s .pre .1)
+
+unm4-requires : tie.Need-unm4-requires Inv-loop μ-loop
+unm4-requires c κs = tt
+
+put-block-requires : tie.Need-put-block-requires Inv-loop μ-loop
+put-block-requires c κs = omega arith
+
+add-i : tie.Need-add-i Inv-loop μ-loop
+add-i c = omega arith
+
+loop-less : tie.Need-loop-less Inv-loop μ-loop
+loop-less c = omega arith
+
+loop-again : tie.Need-loop-again Inv-loop μ-loop
+loop-again c =
+    let l = c .before .before .before .before .before .before .before .before .before in
+    let s = l .before .before in
+    let b = s .args .block in
+    let st = l .loop .state in
+    let i = l .loop .i in
+    let u = c .before .before .before .before in
+    let w = u .unm4 .ensures ∙ ap (unm4 p) (u .before .add-blocks .ensures ∙ ap (λ (x : List ℕ). addLists p x b) (u .before .before .block-at .ensures)) in (
+      omega arith,
+      each-more p b (s .args .state .now) st _ i (l .loop .inv .1) (omega arith)
+          (c .before .before .put-block .ensures ∙ ap (λ (x : List ℕ). take i st ++ x ++ drop (i + 4) st) w),
+    )
+
+same-length : tie.Need-same-length Inv-loop μ-loop
+same-length c = omega arith
+
+returns : tie.Need-returns Inv-loop μ-loop
+returns c =
+    let l = c .before in
+    let s = l .before .before in
+    each-all p (s .args .block) (s .args .state .now) (l .loop .state) (l .loop .i) (l .loop .inv .1) (omega arith)
+
+pub unm4-each-spec : {M : Type 1} → statement M
+unm4-each-spec =
+    tie.close
+    (tie.spec
+    Inv-loop
+    μ-loop
+    loop-holds
+    block-at-requires
+    add-blocks-requires
+    unm4-requires
+    put-block-requires
+    add-i
+    loop-less
+    loop-again
+    same-length
+    returns)

@@ -1,0 +1,63 @@
+use mathlib.Core.Path.{_≡_, refl, ap, _∙_}
+use Prim.Native.Nat.{ℕ, _+_, _-_, _%_, _≤_}
+use native.Mathlib.Omega.{arith}
+use lib.ListN.{take}
+use Rattle.modular.specs.Goldilocks.{p}
+use Rattle.poseidon2.specs.Layers.{sum}
+use Rattle.poseidon2.proofs.Words.{below}
+use Rattle.inversion.proofs.Words.{positive}
+use Rattle.inversion.proofs.Sums.{sum-more}
+use Rattle.inversion.proofs.internal.one_and_sum.Statement.{statement}
+use Rattle.inversion.proofs.internal.one_and_sum.Tie as tie
+
+abbrev Inv-loop : tie.InvT-loop
+Inv-loop width inverses total₀ i₀ total i = (i ≤ width) × (total ≡ (1 + sum (take i inverses)) % p)
+
+abbrev μ-loop : tie.MeasureT-loop
+μ-loop width inverses total₀ i₀ total i = width - i
+
+loop-holds : tie.Need-loop-holds Inv-loop μ-loop
+unfolding sum
+loop-holds c = (omega arith, refl)
+
+mul-sum : tie.Need-mul-sum Inv-loop μ-loop
+mul-sum c = omega arith
+
+element-copy-out-sum : tie.Need-element-copy-out-sum Inv-loop μ-loop
+element-copy-out-sum c = omega arith
+
+sum-requires : tie.Need-sum-requires Inv-loop μ-loop
+sum-requires c κs = (rw (c .before .before .loop .inv .1) (below positive _), c .before .before .before .pre .1 .at (c .before .before .loop .i))
+
+add-i : tie.Need-add-i Inv-loop μ-loop
+add-i c = omega arith
+
+loop-less : tie.Need-loop-less Inv-loop μ-loop
+loop-less c = omega arith
+
+loop-again : tie.Need-loop-again Inv-loop μ-loop
+loop-again c =
+    let l = c .before .before .before in
+    let a = l .before .args in
+    (omega arith, c .sum .ensures ∙ sum-more p (l .loop .i) (l .loop .total) (a .inverses .now) (l .loop .inv .1))
+
+returns : tie.Need-returns Inv-loop μ-loop
+returns c =
+    let a = c .before .before .args in
+    let e : c .before .loop .i ≡ a .width = omega arith in
+    c .before .loop .inv .1 ∙ ap (λ (n : ℕ). (1 + sum (take n (a .inverses .now))) % p) e
+
+pub one-and-sum-spec : {M : Type 1} → statement M
+one-and-sum-spec =
+    tie.close
+    (tie.spec
+    Inv-loop
+    μ-loop
+    loop-holds
+    mul-sum
+    element-copy-out-sum
+    sum-requires
+    add-i
+    loop-less
+    loop-again
+    returns)

@@ -1,0 +1,77 @@
+-- The loop's invariant: the products of the places passed are added up.
+use mathlib.Core.Path.{_≡_, refl, ap, _∙_}
+use Prim.Native.Nat.{ℕ, _-_, _%_, _≤_}
+use native.Mathlib.Omega.{arith}
+use lib.ListN.{length, take}
+use Rattle.modular.specs.Arithmetic.{add}
+use Rattle.modular.specs.Goldilocks.{p}
+use Rattle.poseidon2.specs.Layers.{dot}
+use Rattle.poseidon2.proofs.Words.{below}
+use Rattle.inversion.proofs.Words.{positive, mul-word}
+use Rattle.inversion.proofs.Sums.{dot-more}
+use Rattle.inversion.proofs.internal.weighted_sum.Statement.{statement}
+use Rattle.inversion.proofs.internal.weighted_sum.Tie as tie
+
+abbrev Inv-loop : tie.InvT-loop
+Inv-loop inverses state total₀ i₀ total i = (i ≤ length state) × (total ≡ dot (take i inverses) state % p)
+
+abbrev μ-loop : tie.MeasureT-loop
+μ-loop inverses state total₀ i₀ total i = length state - i
+
+loop-holds : tie.Need-loop-holds Inv-loop μ-loop
+unfolding dot
+loop-holds c = (omega arith, refl)
+
+mul-product : tie.Need-mul-product Inv-loop μ-loop
+mul-product c = omega arith
+
+element-copy-out-product : tie.Need-element-copy-out-product Inv-loop μ-loop
+element-copy-out-product c = omega arith
+
+mul-product-2 : tie.Need-mul-product-2 Inv-loop μ-loop
+mul-product-2 c = omega arith
+
+shared-slice-read-product : tie.Need-shared-slice-read-product Inv-loop μ-loop
+shared-slice-read-product c = omega arith
+
+product-requires : tie.Need-product-requires Inv-loop μ-loop
+product-requires c κs = omega arith
+
+sum-requires : tie.Need-sum-requires Inv-loop μ-loop
+sum-requires c κs = (rw (c .before .before .before .before .loop .inv .1) (below positive _), rw (c .product .ensures) (mul-word _ _))
+
+add-i : tie.Need-add-i Inv-loop μ-loop
+add-i c = omega arith
+
+loop-less : tie.Need-loop-less Inv-loop μ-loop
+loop-less c = omega arith
+
+loop-again : tie.Need-loop-again Inv-loop μ-loop
+loop-again c =
+    let l = c .before .before .before .before .before in
+    let a = l .before .before .args in
+    (omega arith, c .sum .ensures ∙ ap (add p (l .loop .total)) (c .before .product .ensures) ∙ dot-more p (l .loop .i) (l .loop .total) (a .inverses .now) (a .state .now) (l .loop .inv .1))
+
+returns : tie.Need-returns Inv-loop μ-loop
+returns c =
+    let a = c .before .before .before .args in
+    let e : c .before .loop .i ≡ length (a .state .now) = omega arith in
+    c .before .loop .inv .1 ∙ ap (λ (n : ℕ). dot (take n (a .inverses .now)) (a .state .now) % p) e
+
+pub weighted-sum-spec : {M : Type 1} → statement M
+weighted-sum-spec =
+    tie.close
+    (tie.spec
+    Inv-loop
+    μ-loop
+    loop-holds
+    mul-product
+    element-copy-out-product
+    mul-product-2
+    shared-slice-read-product
+    product-requires
+    sum-requires
+    add-i
+    loop-less
+    loop-again
+    returns)

@@ -1,0 +1,105 @@
+-- The loop's invariant: the rounds from i on are undone.
+use mathlib.Core.Path.{_≡_, refl, sym, ap, ap₂, subst, _∙_}
+use mathlib.Core.List.{List}
+use Prim.Native.Nat.{ℕ, _+_, _*_, _-_, _≤_}
+use native.Mathlib.Omega.{arith}
+use lib.ListN.{length, drop}
+use Rattle.modular.specs.Goldilocks.{p}
+use Rattle.poseidon2.specs.Inverse.{subLists, seventhRoots}
+use Rattle.poseidon2.specs.Statements.{Width, State}
+use Rattle.inversion.proofs.Words.{unexternal-step, unfullRounds-state}
+use Rattle.inversion.proofs.Rounds.{fullFrom, full-none, full-all, full-more, round-fits, fewer-words}
+use Rattle.inversion.proofs.unfull_rounds.Statement.{statement}
+use Rattle.inversion.proofs.unfull_rounds.Tie as tie
+
+abbrev Inv-loop : tie.InvT-loop
+Inv-loop rounds constants at state₀ i₀ state i = (i ≤ rounds) × (state ≡ fullFrom (length state₀) constants at rounds state₀ i) × State p (length state₀) state
+
+abbrev μ-loop : tie.MeasureT-loop
+μ-loop rounds constants at state₀ i₀ state i = i
+
+loop-holds : tie.Need-loop-holds Inv-loop μ-loop
+loop-holds c =
+    let a = c .before .args in
+    let xs = a .state .now in
+    (omega arith, full-none (length xs) (a .constants .now) (a .at) (a .rounds) xs, record { width = refl; words = c .before .pre .1 })
+
+sub-i : tie.Need-sub-i Inv-loop μ-loop
+sub-i c = omega arith
+
+unexternal-requires : tie.Need-unexternal-requires Inv-loop μ-loop
+unexternal-requires c κs =
+    let l = c .before .before in
+    (subst Width (sym (l .loop .inv .2 .width)) (l .before .before .pre .0), l .loop .inv .2 .words)
+
+mul-unraise : tie.Need-mul-unraise Inv-loop μ-loop
+mul-unraise c =
+    let u = c .before .before in
+    let l = u .before .before .before in
+    let s = l .before .before in
+    let v = unexternal-step (s .pre .0) (l .loop .inv .2) (u .unexternal .ensures) in
+    omega (arith, round-fits _ _ (l .loop .i) (s .args .rounds) (v .width) (u .before .before .loop-test .taken) (l .loop .inv .0), s .pre .2)
+
+add-unraise : tie.Need-add-unraise Inv-loop μ-loop
+add-unraise c =
+    let u = c .before .before in
+    let l = u .before .before .before in
+    let s = l .before .before in
+    let v = unexternal-step (s .pre .0) (l .loop .inv .2) (u .unexternal .ensures) in
+    omega (arith, round-fits _ _ (l .loop .i) (s .args .rounds) (v .width) (u .before .before .loop-test .taken) (l .loop .inv .0), s .pre .2)
+
+unraise-requires : tie.Need-unraise-requires Inv-loop μ-loop
+unraise-requires c κs =
+    let u = c .before .before .before in
+    let l = u .before .before .before in
+    let s = l .before .before in
+    let v = unexternal-step (s .pre .0) (l .loop .inv .2) (u .unexternal .ensures) in
+    let f = round-fits _ _ (l .loop .i) (s .args .rounds) (v .width) (u .before .before .loop-test .taken) (l .loop .inv .0) in
+    (omega (arith, f, s .pre .2), fewer-words (s .pre .3) (omega (arith, f)), v .words)
+
+loop-less : tie.Need-loop-less Inv-loop μ-loop
+loop-less c = omega arith
+
+loop-again : tie.Need-loop-again Inv-loop μ-loop
+loop-again c =
+    let r = c .before .before in
+    let u = r .before .before .before .before in
+    let l = u .before .before .before in
+    let s = l .before .before in
+    let xs = s .args .state .now in
+    let C = s .args .constants .now in
+    let at = s .args .at in
+    let i = l .loop .i in
+    let v = unexternal-step (s .pre .0) (l .loop .inv .2) (u .unexternal .ensures) in
+    let q : r .unraise .last .1 .1 .0 ≡ fullFrom (length xs) C at (s .args .rounds) xs (i - 1) =
+    r .unraise .ensures ∙ ap₂ (λ (ys : List ℕ) (m : ℕ). subLists p (seventhRoots p ys) (drop (at + m * (i - 1)) C)) (u .unexternal .ensures) (v .width)
+    ∙ full-more (length xs) C at (s .args .rounds) xs i (l .loop .state) (s .pre .0) (u .before .before .loop-test .taken) (l .loop .inv .0) (l .loop .inv .2) (l .loop .inv .1) in
+    (omega arith, q, subst (State p (length xs)) (sym q) (unfullRounds-state _ _ xs (s .pre .0) (record { width = refl; words = s .pre .1 })))
+
+same-length : tie.Need-same-length Inv-loop μ-loop
+same-length c = c .before .loop .inv .2 .width
+
+returns : tie.Need-returns Inv-loop μ-loop
+returns c =
+    let l = c .before in
+    let a = l .before .before .args in
+    let xs = a .state .now in
+    let e : l .loop .i ≡ 0 = omega arith in
+    l .loop .inv .1 ∙ ap (fullFrom (length xs) (a .constants .now) (a .at) (a .rounds) xs) e ∙ full-all (length xs) (a .constants .now) (a .at) (a .rounds) xs
+
+pub unfull-rounds-spec : {M : Type 1} → statement M
+unfull-rounds-spec =
+    tie.close
+    (tie.spec
+    Inv-loop
+    μ-loop
+    loop-holds
+    sub-i
+    unexternal-requires
+    mul-unraise
+    add-unraise
+    unraise-requires
+    loop-less
+    loop-again
+    same-length
+    returns)

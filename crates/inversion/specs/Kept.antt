@@ -1,0 +1,50 @@
+-- The inverse permutation that is handed, in the place of D, the inverse e_i of each D_i and the inverse k of 1 + Σ e_i: so a caller
+-- of many inverts D once. With D's own inverses it is poseidon2's inverse permutation.
+use mathlib.Core.List.{List, _++_}
+use Prim.Native.Nat.{ℕ, zero, suc, _+_, _*_, _-_, _%_, _<_, _≤_}
+use lib.ListN.{getD, take, drop, replicate}
+use Rattle.modular.specs.Arithmetic.{inverse}
+use Rattle.poseidon2.specs.Layers.{sum, dot}
+use Rattle.poseidon2.specs.Inverse.{inverses, multiplesLess, unexternal, unraiseFirst, unfullRounds}
+use Rattle.poseidon2.specs.Statements.{Width, State}
+
+-- The inverses of the first t words of D, and zeros up to twelve.
+unfoldable pub keptInverses : ℕ → ℕ → List ℕ → List ℕ
+keptInverses p t D = inverses p (take t D) ++ replicate (12 - t) 0
+
+-- The inverse of 1 plus the first t of the inverses.
+unfoldable pub totalInverse : ℕ → ℕ → List ℕ → ℕ
+totalInverse p t es = inverse p ((1 + sum (take t es)) % p)
+
+-- M_I undone: the sum of the words was Σ e_i y_i, k times.
+unfoldable pub uninternalBy : ℕ → List ℕ → ℕ → List ℕ → List ℕ
+uninternalBy p es k ys = multiplesLess p (dot es ys * k) es ys
+
+unfoldable pub unpartialRoundBy : ℕ → List ℕ → ℕ → ℕ → List ℕ → List ℕ
+unpartialRoundBy p es k c ys = unraiseFirst p c (uninternalBy p es k ys)
+
+unfoldable pub unpartialRoundsBy : ℕ → List ℕ → ℕ → ℕ → List ℕ → List ℕ → List ℕ
+unpartialRoundsBy p es k zero cs ys = ys
+unpartialRoundsBy p es k (suc n) cs ys = unpartialRoundBy p es k (getD cs 0 0) (unpartialRoundsBy p es k n (drop 1 cs) ys)
+
+-- The permutation undone, at width t.
+unfoldable pub unpermuteBy : ℕ → ℕ → ℕ → ℕ → List ℕ → ℕ → List ℕ → List ℕ → List ℕ
+unpermuteBy p t half rp es k C ys =
+    unexternal p
+    (unfullRounds p t half C
+    (unpartialRoundsBy p (take t es) k rp (drop (t * half) C)
+    (unfullRounds p t half (drop (t * half + rp) C) ys)))
+
+-- The first n constants are words; of those beyond nothing is asked.
+pub record WordsBelow (p n : ℕ) (C : List ℕ) : Type 0 where
+  pub at : (i : ℕ) → i < n → getD C i 0 < p
+
+-- What the inverse permutation is handed besides D: an accepted set's width and numbers of rounds (`half` is R_F/2), its
+-- t×R_F + R_P constants, and a state.
+pub record UnpermuteInput (p t half rp : ℕ) (C ys : List ℕ) : Type 0 where
+  pub width : Width t
+  pub someFull : 1 ≤ half
+  pub full : half ≤ 6
+  pub partial : rp ≤ 64
+  pub constants : WordsBelow p (t * (2 * half) + rp) C
+  pub state : State p t ys

@@ -1,0 +1,116 @@
+// The inverse permutation on words, the permutation's last step undone first.
+mod external;
+mod internal;
+
+ghost use mathlib.Core.Path.{_≡_};
+ghost use Prim.Native.Nat.{_+_, _*_, _≤_};
+ghost use lib.ListN.{length, take, drop};
+ghost use Rattle.modular.specs.Goldilocks.{p};
+ghost use Rattle.poseidon2.specs.Inverse.{subLists, seventhRoots, unfullRounds, unpermute};
+ghost use Rattle.poseidon2.specs.Statements.{Width, Words, AcceptedDiagonal};
+ghost use Rattle.inversion.specs.Kept.{WordsBelow, UnpermuteInput, unpartialRoundsBy, unpermuteBy};
+use external::unexternal;
+use field::difference;
+use field::seventh_root;
+pub use internal::kept_inverses;
+pub use internal::total_inverse;
+use internal::uninternal;
+
+// Every word's seventh root, less the constants from place `at` on.
+fn unraise(constants: &[u64; 208], at: usize, state: &mut [u64])
+    requires { ⌜ (at + length (now state) ≤ 208) × WordsBelow p (at + length (now state)) (now constants) × Words p (now state) ⌝ }
+    ensures { λ r. ⌜ now (state .exit) ≡ subLists p (seventhRoots p (now (state .entry))) (drop at (now (constants .entry))) ⌝ }
+{
+    let mut i = 0;
+    while i < state.len() {
+        let root = seventh_root(state[i]);
+        state[i] = difference(root, constants[at + i]);
+        i += 1;
+    }
+}
+
+// Full rounds undone: the first of them has its constants from place `at` on.
+fn unfull_rounds(rounds: usize, constants: &[u64; 208], at: usize, state: &mut [u64])
+    requires { ⌜ Width (length (now state)) × Words p (now state) × (at + length (now state) * rounds ≤ 208) × WordsBelow p (at + length (now state) * rounds) (now constants) ⌝ }
+    ensures { λ r. ⌜ now (state .exit) ≡ unfullRounds p (length (now (state .entry))) rounds (drop at (now (constants .entry))) (now (state .entry)) ⌝ }
+{
+    let mut i = rounds;
+    while i > 0 {
+        i -= 1;
+        unexternal(state);
+        unraise(constants, at + state.len() * i, state);
+    }
+}
+
+// Partial rounds undone: the first of them has the constant at place `at`.
+fn unpartial_rounds(
+    rounds: usize,
+    inverses: &[u64; 12],
+    total_inverse: u64,
+    constants: &[u64; 208],
+    at: usize,
+    state: &mut [u64],
+)
+    requires { ⌜ Width (length (now state)) × Words p (now state) × (at + rounds ≤ 208) × WordsBelow p (at + rounds) (now constants) ⌝ }
+    ensures { λ r. ⌜ now (state .exit) ≡ unpartialRoundsBy p (take (length (now (state .entry))) (now (inverses .entry))) «total_inverse» rounds (drop at (now (constants .entry))) (now (state .entry)) ⌝ }
+{
+    let mut i = rounds;
+    while i > 0 {
+        i -= 1;
+        uninternal(inverses, total_inverse, state);
+        let root = seventh_root(state[0]);
+        state[0] = difference(root, constants[at + i]);
+    }
+}
+
+// The inverse permutation, handed the inverses of D and the inverse of 1 plus their sum.
+pub fn unpermute_by(
+    width: usize,
+    half: usize,
+    partial_rounds: usize,
+    inverses: &[u64; 12],
+    total_inverse: u64,
+    constants: &[u64; 208],
+    state: &mut [u64],
+)
+    requires { ⌜ UnpermuteInput p width half «partial_rounds» (now constants) (now state) ⌝ }
+    ensures { λ r. ⌜ now (state .exit) ≡ unpermuteBy p width half «partial_rounds» (now (inverses .entry)) «total_inverse» (now (constants .entry)) (now (state .entry)) ⌝ }
+{
+    let middle = width * half;
+    unfull_rounds(half, constants, middle + partial_rounds, state);
+    unpartial_rounds(
+        partial_rounds,
+        inverses,
+        total_inverse,
+        constants,
+        middle,
+        state,
+    );
+    unfull_rounds(half, constants, 0, state);
+    unexternal(state);
+}
+
+// The inverse permutation: D is inverted once.
+pub fn unpermute(
+    width: usize,
+    half: usize,
+    partial_rounds: usize,
+    diagonal: &[u64; 12],
+    constants: &[u64; 208],
+    state: &mut [u64],
+)
+    requires { ⌜ UnpermuteInput p width half «partial_rounds» (now constants) (now state) × AcceptedDiagonal p width (take width (now diagonal)) ⌝ }
+    ensures { λ r. ⌜ now (state .exit) ≡ unpermute p half «partial_rounds» (now (diagonal .entry)) (now (constants .entry)) (now (state .entry)) ⌝ }
+{
+    let inverses = kept_inverses(width, diagonal);
+    let total_inverse = total_inverse(width, &inverses);
+    unpermute_by(
+        width,
+        half,
+        partial_rounds,
+        &inverses,
+        total_inverse,
+        constants,
+        state,
+    );
+}
