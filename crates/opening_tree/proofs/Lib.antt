@@ -1,3 +1,6 @@
 -- The proofs of the claims in specs/, and the laws that the entries' proofs cite.
 pub mod Worked
 mod Operands
+mod AcceptedSets
+mod LengthsAndWords
+mod AcceptedStates

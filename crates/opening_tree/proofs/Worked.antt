@@ -18,6 +18,19 @@ inverse-of-two = sym (goldilocks-laws .inverses .only 2 9223372034707292161 (lit
 
 pub worked : Worked
 unfolding add sub mul pow addLists sum dot rowsTimes m4Rows m4 blocks joinBlocks sumBlocks addToEach mixed external plusMultiples internal addConstants seventhPowers fullRound raiseFirst partialRound fullRounds partialRounds permuteAt permute compress
-worked =
-    (refl, (refl, (refl, (refl, (ap (λ (x : ℕ). x ∷ []) inverse-of-two,
-    (refl, (refl, (refl, (refl, (refl, (refl, (refl, tt))))))))))))
+worked = (
+  refl,
+  (
+    refl,
+    (
+      refl,
+      (
+        refl,
+        (
+          ap (λ (x : ℕ). x ∷ []) inverse-of-two,
+          (refl, (refl, (refl, (refl, (refl, (refl, (refl, tt))))))),
+        ),
+      ),
+    ),
+  ),
+)

@@ -44,9 +44,12 @@ unfoldable pub unpermuted : ℕ → ParameterSet → List ℕ → List ℕ
 unpermuted p s xs = after (stateReply p s xs) xs (unpermuteUnder p s xs)
 
 -- `compress` goes from a state of t numbers to a node of l.
+unfoldable pub compressRows : ℕ → ParameterSet → List ℕ → List ℕ → List TableRow
+compressRows p s xs node =
+    setRows p s ++ (row 10 (not (eqb (length xs) (s .width) && eqb (length node) (s .«node_size»))) ∷ notWords p xs ∷ [])
+
 unfoldable pub compressReply : ℕ → ParameterSet → List ℕ → List ℕ → Reply
-compressReply p s xs node =
-    reply (setRows p s ++ (row 10 (not (eqb (length xs) (s .width) && eqb (length node) (s .«node_size»))) ∷ notWords p xs ∷ [])) []
+compressReply p s xs node = reply (compressRows p s xs node) []
 
 unfoldable pub compressed : ℕ → ParameterSet → List ℕ → List ℕ → List ℕ
 compressed p s xs node = after (compressReply p s xs node) node (compressUnder p s xs)

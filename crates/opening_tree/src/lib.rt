@@ -3,6 +3,7 @@
 pub mod arithmetic;
 pub mod outcome;
 pub mod sets;
+pub mod states;
 
 pub use arithmetic::Answer;
 pub use arithmetic::difference;
@@ -13,3 +14,6 @@ pub use arithmetic::seventh_root;
 pub use arithmetic::sum;
 pub use outcome::Outcome;
 pub use sets::validate;
+pub use states::compress;
+pub use states::permute;
+pub use states::unpermute;

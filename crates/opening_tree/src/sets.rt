@@ -16,11 +16,17 @@ pub fn validate(
     diagonal: &[u64],
     constants: &[u64],
 ) -> Validation
-    ensures {
-        λ r. ⌜ r ≡ validation p width «node_size» height «full_rounds» «partial_rounds» (now (diagonal .entry)) (now (constants .entry)) ⌝
-    }
+    ensures { λ r. ⌜ r ≡ validation p width «node_size» height «full_rounds» «partial_rounds» (now (diagonal .entry)) (now (constants .entry)) ⌝ }
 {
-    parameters::validate(width, node_size, height, full_rounds, partial_rounds, diagonal, constants)
+    parameters::validate(
+        width,
+        node_size,
+        height,
+        full_rounds,
+        partial_rounds,
+        diagonal,
+        constants,
+    )
 }
 
 // The first of the rows that applies to a set that is handed in, or 0.

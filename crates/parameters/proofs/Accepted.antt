@@ -12,9 +12,11 @@ use borrow.Author.Tests.{eqb-true, eqb-false, ltb-false}
 use Rattle.modular.specs.Arithmetic.{allWords}
 use Rattle.modular.proofs.Words.{left-true, right-true}
 use Rattle.refusals.specs.Table.{TableRow, row, firstRow}
-use Rattle.refusals.proofs.Table.{Numbered, none, next}
+use Rattle.refusals.proofs.Table.{Numbered, none, next, numbered-append, row-none, first-none}
 use Rattle.poseidon2.specs.Statements.{Width}
 use Rattle.parameters.specs.Rows.{badWidth, badNodeSize, badFullRounds, badPartialRounds, badHeight, constantCount, badLengths, hasZero, badDiagonal, numberRows, listRows, validationRows}
+use Rattle.parameters.specs.ParameterSet.{heldRows, setRows}
+use Rattle.parameters.specs.declared.ParameterSet.{ParameterSet}
 
 -- of a test of two parts that fails neither holds
 or-false : (a b : Bool) → (a || b) ≡ false → (a ≡ false) × (b ≡ false)
@@ -24,12 +26,6 @@ or-false false b e = (refl, e)
 not-false : (b : Bool) → not b ≡ false → b ≡ true
 not-false true e = refl
 not-false false e = sym e
-
--- where the first row is 0 no row applies, since no row's number is 0
-pub none-applies : (n : ℕ) (b : Bool) (rows : List TableRow) → firstRow (row (suc n) b ∷ rows) ≡ 0 → (b ≡ false) × (firstRow rows ≡ 0)
-unfolding firstRow
-none-applies n true rows e = absurd (omega arith)
-none-applies n false rows e = (refl, e)
 
 pub width-of : (t : ℕ) → badWidth t ≡ false → Width t
 unfolding badWidth
@@ -110,22 +106,15 @@ pub record Lists (p : ℕ) (D C : List ℕ) : Type 0 where
   pub noZero : hasZero D ≡ false
   pub sum : badDiagonal p D ≡ false
 
--- rows 1 to 5, and those after them
-pub numbers-then : (t l h rf rp : ℕ) (rows : List TableRow) → firstRow (numberRows t l h rf rp ++ rows) ≡ 0 → Numbers t l h rf rp × (firstRow rows ≡ 0)
-unfolding numberRows
-numbers-then t l h rf rp rows e =
-    let r1 = none-applies 0 (badWidth t) _ e in
-    let r2 = none-applies 1 (badNodeSize t l) _ (r1 .1) in
-    let r3 = none-applies 2 (badFullRounds rf) _ (r2 .1) in
-    let r4 = none-applies 3 (badPartialRounds rp) _ (r3 .1) in
-    let r5 = none-applies 4 (badHeight (t / l) h) rows (r4 .1) in (
-      record { width = width-of t (r1 .0); nodeSize = node-size-of t l (r2 .0); rounds = rounds-of rf rp (r3 .0) (r4 .0); height = height-of (t / l) h (r5 .0) },
-      r5 .1,
-    )
-
 pub numbers-of : (t l h rf rp : ℕ) → firstRow (numberRows t l h rf rp) ≡ 0 → Numbers t l h rf rp
 unfolding numberRows
-numbers-of t l h rf rp e = numbers-then t l h rf rp [] e .0
+numbers-of t l h rf rp e =
+    let r1 = row-none 0 (badWidth t) _ e in
+    let r2 = row-none 1 (badNodeSize t l) _ (r1 .1) in
+    let r3 = row-none 2 (badFullRounds rf) _ (r2 .1) in
+    let r4 = row-none 3 (badPartialRounds rp) _ (r3 .1) in
+    let r5 = row-none 4 (badHeight (t / l) h) _ (r4 .1) in
+    record { width = width-of t (r1 .0); nodeSize = node-size-of t l (r2 .0); rounds = rounds-of rf rp (r3 .0) (r4 .0); height = height-of (t / l) h (r5 .0) }
 
 pub numbers-numbered : (t l h rf rp : ℕ) → Numbered (numberRows t l h rf rp)
 unfolding numberRows
@@ -134,19 +123,29 @@ numbers-numbered t l h rf rp = next (lit< tt) (next (lit< tt) (next (lit< tt) (n
 pub lists-of : (p : ℕ) (D C : List ℕ) → firstRow (listRows p D C) ≡ 0 → Lists p D C
 unfolding listRows
 lists-of p D C e =
-    let r7 = none-applies 6 (not (allWords p D && allWords p C)) _ e in
-    let r8 = none-applies 7 (hasZero D) _ (r7 .1) in
-    let r9 = none-applies 8 (badDiagonal p D) _ (r8 .1) in
+    let r7 = row-none 6 (not (allWords p D && allWords p C)) _ e in
+    let r8 = row-none 7 (hasZero D) _ (r7 .1) in
+    let r9 = row-none 8 (badDiagonal p D) _ (r8 .1) in
     let w = not-false (allWords p D && allWords p C) (r7 .0) in
     record { diagonal = left-true (allWords p D) (allWords p C) w; constants = right-true (allWords p D) (allWords p C) w; noZero = r8 .0; sum = r9 .0 }
+
+-- The rows of a set that is handed in.
+pub lists-numbered : (p : ℕ) (D C : List ℕ) → Numbered (listRows p D C)
+unfolding listRows
+lists-numbered p D C = next (lit< tt) (next (lit< tt) (next (lit< tt) none))
+
+pub set-numbered : (p : ℕ) (s : ParameterSet) → Numbered (setRows p s)
+unfolding setRows heldRows
+set-numbered p s = numbered-append (numbers-numbered _ _ _ _ _) (lists-numbered p _ _)
 
 -- The lists of a set that validation accepts have the places that the set has for them.
 pub lists-fit : (p t l h rf rp : ℕ) (D C : List ℕ) → firstRow (validationRows p t l h rf rp D C) ≡ 0 → (length D ≤ 12) × (length C ≤ 208)
 unfolding validationRows badLengths
 lists-fit p t l h rf rp D C e =
-    let n = numbers-then t l h rf rp (row 6 (badLengths t rf rp D C) ∷ listRows p D C) e in
-    let r6 = none-applies 5 (badLengths t rf rp D C) (listRows p D C) (n .1) in
+    let n = first-none (numberRows t l h rf rp) (row 6 (badLengths t rf rp D C) ∷ listRows p D C) (numbers-numbered t l h rf rp) e in
+    let N = numbers-of t l h rf rp (n .0) in
+    let r6 = row-none 5 (badLengths t rf rp D C) (listRows p D C) (n .1) in
     let b = not-false (eqb (length D) t && eqb (length C) (constantCount t rf rp)) (r6 .0) in
     let d : length D ≡ t = eqb-true (length D) t (left-true (eqb (length D) t) (eqb (length C) (constantCount t rf rp)) b) in
     let c : length C ≡ constantCount t rf rp = eqb-true (length C) (constantCount t rf rp) (right-true (eqb (length D) t) (eqb (length C) (constantCount t rf rp)) b) in
-    (omega (arith, width-fits t (n .0 .width)), omega (arith, count-fits t l h rf rp (n .0)))
+    (omega (arith, width-fits t (N .width)), omega (arith, count-fits t l h rf rp N))

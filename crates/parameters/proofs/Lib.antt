@@ -1,5 +1,5 @@
 -- The laws that the proofs of validation cite, and what an accepted set is.
-mod Lists
+pub mod Lists
 mod Diagonal
 mod Heights
 mod Padding

@@ -149,7 +149,13 @@ fn bad_diagonal(diagonal: &[u64]) -> bool
 }
 
 // The first of rows 1 to 5 that applies, or 0.
-fn row_of_numbers(width: u64, node_size: u64, height: u64, full_rounds: u64, partial_rounds: u64) -> u8
+fn row_of_numbers(
+    width: u64,
+    node_size: u64,
+    height: u64,
+    full_rounds: u64,
+    partial_rounds: u64,
+) -> u8
     ensures { λ r. ⌜ r ≡ firstRow (numberRows width «node_size» height «full_rounds» «partial_rounds») ⌝ }
 {
     if bad_width(width) {
@@ -190,7 +196,13 @@ fn row_of_lists(diagonal: &[u64], constants: &[u64]) -> u8
 }
 
 // Whether D or C has another length than the numbers say.
-fn bad_lengths(width: u64, full_rounds: u64, partial_rounds: u64, diagonal: &[u64], constants: &[u64]) -> bool
+fn bad_lengths(
+    width: u64,
+    full_rounds: u64,
+    partial_rounds: u64,
+    diagonal: &[u64],
+    constants: &[u64],
+) -> bool
     requires { ⌜ (width ≤ 12) × («full_rounds» ≤ 12) × («partial_rounds» ≤ 64) ⌝ }
     ensures { λ r. ⌜ r ≡ badLengths width «full_rounds» «partial_rounds» (now (diagonal .entry)) (now (constants .entry)) ⌝ }
 {
@@ -213,9 +225,7 @@ fn row_of(
     diagonal: &[u64],
     constants: &[u64],
 ) -> u8
-    ensures {
-        λ r. ⌜ r ≡ firstRow (validationRows p width «node_size» height «full_rounds» «partial_rounds» (now (diagonal .entry)) (now (constants .entry))) ⌝
-    }
+    ensures { λ r. ⌜ r ≡ firstRow (validationRows p width «node_size» height «full_rounds» «partial_rounds» (now (diagonal .entry)) (now (constants .entry))) ⌝ }
 {
     let row = row_of_numbers(width, node_size, height, full_rounds, partial_rounds);
     if row != 0 {
@@ -282,11 +292,17 @@ pub fn validate(
     diagonal: &[u64],
     constants: &[u64],
 ) -> Validation
-    ensures {
-        λ r. ⌜ r ≡ validation p width «node_size» height «full_rounds» «partial_rounds» (now (diagonal .entry)) (now (constants .entry)) ⌝
-    }
+    ensures { λ r. ⌜ r ≡ validation p width «node_size» height «full_rounds» «partial_rounds» (now (diagonal .entry)) (now (constants .entry)) ⌝ }
 {
-    let number = row_of(width, node_size, height, full_rounds, partial_rounds, diagonal, constants);
+    let number = row_of(
+        width,
+        node_size,
+        height,
+        full_rounds,
+        partial_rounds,
+        diagonal,
+        constants,
+    );
     if number != 0 {
         return refused(number);
     }
@@ -315,9 +331,7 @@ pub fn row_of_set(
     constants: &[u64],
 ) -> u8
     requires { ⌜ (length (now diagonal) ≡ 12) × (length (now constants) ≡ 208) ⌝ }
-    ensures {
-        λ r. ⌜ r ≡ firstRow (heldRows p width «node_size» height «full_rounds» «partial_rounds» (now (diagonal .entry)) (now (constants .entry))) ⌝
-    }
+    ensures { λ r. ⌜ r ≡ firstRow (heldRows p width «node_size» height «full_rounds» «partial_rounds» (now (diagonal .entry)) (now (constants .entry))) ⌝ }
 {
     let row = row_of_numbers(width, node_size, height, full_rounds, partial_rounds);
     if row != 0 {

@@ -1,5 +1,5 @@
 -- A row that applies is the reply, and one that does not leaves it to the rows below.
-use mathlib.Core.Path.{_≡_, refl, ap, _∙_}
+use mathlib.Core.Path.{_≡_, refl, sym, ap, _∙_}
 use mathlib.Core.Logic.{_≢_}
 use mathlib.Core.Bool.{Bool, true, false, cond, not}
 use mathlib.Core.List.{List, [], _∷_, _++_}
@@ -64,24 +64,40 @@ first-back (r ∷ rows) more (next h N) e = at (r .applies) (first-back rows mor
     at true ih e = absurd (omega arith)
     at false ih e = ih e
 
--- The same of replies.
-pub reply-front : (rows more : List TableRow) (result : List ℕ) → firstRow rows ≢ 0 → reply (rows ++ more) result ≡ refused (firstRow rows)
-unfolding firstRow reply
-reply-front [] more result o = absurd (o refl)
-reply-front (r ∷ rows) more result o = at (r .applies) (reply-front rows more result) o
+-- Where no row of a list applies none of its parts does.
+pub first-none : (rows more : List TableRow) → Numbered rows → firstRow (rows ++ more) ≡ 0 → (firstRow rows ≡ 0) × (firstRow more ≡ 0)
+unfolding firstRow
+first-none [] more N e = (refl, e)
+first-none (r ∷ rows) more (next h N) e = at (r .applies) (first-none rows more N) e
   where
-    at : (b : Bool) → (firstRow rows ≢ 0 → reply (rows ++ more) result ≡ refused (firstRow rows)) → cond b (r .number) (firstRow rows) ≢ 0
-        → cond b (refused (r .number)) (reply (rows ++ more) result) ≡ refused (cond b (r .number) (firstRow rows))
+    at : (b : Bool) → (firstRow (rows ++ more) ≡ 0 → (firstRow rows ≡ 0) × (firstRow more ≡ 0)) → cond b (r .number) (firstRow (rows ++ more)) ≡ 0
+        → (cond b (r .number) (firstRow rows) ≡ 0) × (firstRow more ≡ 0)
+    at true ih e = absurd (omega arith)
+    at false ih e = ih e
+
+pub row-none : (n : ℕ) (b : Bool) (rows : List TableRow) → firstRow (row (suc n) b ∷ rows) ≡ 0 → (b ≡ false) × (firstRow rows ≡ 0)
+unfolding firstRow
+row-none n true rows e = absurd (omega arith)
+row-none n false rows e = (refl, e)
+
+-- The reply is the first row that applies, or the result.
+pub reply-refused : (rows : List TableRow) (result : List ℕ) → firstRow rows ≢ 0 → reply rows result ≡ refused (firstRow rows)
+unfolding firstRow reply
+reply-refused [] result o = absurd (o refl)
+reply-refused (r ∷ rows) result o = at (r .applies) (reply-refused rows result) o
+  where
+    at : (b : Bool) → (firstRow rows ≢ 0 → reply rows result ≡ refused (firstRow rows)) → cond b (r .number) (firstRow rows) ≢ 0
+        → cond b (refused (r .number)) (reply rows result) ≡ refused (cond b (r .number) (firstRow rows))
     at true ih o = refl
     at false ih o = ih o
 
-pub reply-back : (rows more : List TableRow) (result : List ℕ) → Numbered rows → firstRow rows ≡ 0 → reply (rows ++ more) result ≡ reply more result
+pub reply-done : (rows : List TableRow) (result : List ℕ) → Numbered rows → firstRow rows ≡ 0 → reply rows result ≡ done result
 unfolding firstRow reply
-reply-back [] more result N e = refl
-reply-back (r ∷ rows) more result (next h N) e = at (r .applies) (reply-back rows more result N) e
+reply-done [] result N e = refl
+reply-done (r ∷ rows) result (next h N) e = at (r .applies) (reply-done rows result N) e
   where
-    at : (b : Bool) → (firstRow rows ≡ 0 → reply (rows ++ more) result ≡ reply more result) → cond b (r .number) (firstRow rows) ≡ 0
-        → cond b (refused (r .number)) (reply (rows ++ more) result) ≡ reply more result
+    at : (b : Bool) → (firstRow rows ≡ 0 → reply rows result ≡ done result) → cond b (r .number) (firstRow rows) ≡ 0
+        → cond b (refused (r .number)) (reply rows result) ≡ done result
     at true ih e = absurd (omega arith)
     at false ih e = ih e
 
@@ -97,3 +113,16 @@ kept-after {r} {n} old new e = rw e
 pub written-after : {r : Reply} {result : List ℕ} (old new : List ℕ) → r ≡ done result → new ≡ after r old new
 unfolding after
 written-after {r} {result} old new e = rw e
+
+-- An entry's two equations, for its reply and its buffer: where it gives the first row's number, and where it does the work.
+pub refused-equations : (rows : List TableRow) (result old new : List ℕ) (n : ℕ) → n ≡ firstRow rows → n ≢ 0
+    → (refused n ≡ reply rows result) × (old ≡ after (reply rows result) old new)
+refused-equations rows result old new n e o =
+    let r : reply rows result ≡ refused (firstRow rows) = reply-refused rows result (λ z. o (e ∙ z)) in
+    (ap refused e ∙ sym r, kept-after old new r)
+
+pub done-equations : (rows : List TableRow) (result old new : List ℕ) → Numbered rows → firstRow rows ≡ 0
+    → (done result ≡ reply rows result) × (new ≡ after (reply rows result) old new)
+done-equations rows result old new N z =
+    let r : reply rows result ≡ done result = reply-done rows result N z in
+    (sym r, written-after old new r)

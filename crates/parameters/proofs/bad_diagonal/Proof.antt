@@ -52,9 +52,11 @@ loop-again c =
     let s = c .before .before in
     let l = s .before .before .before in
     let g = l .before .before in
-    let D = g .args .diagonal .now in
-    (omega arith, one-more p goldilocks D (l .loop .i) (l .loop .all) (l .loop .but-one) (c .product .result) (s .product-sum .result) (omega arith)
-    (nonzero-at D (l .loop .i) (g .pre .1) (omega arith)) (words-at p D (l .loop .i) (g .pre .0) (omega arith)) (l .loop .inv .1) (c .product .ensures) (s .product-sum .ensures))
+    let D = g .args .diagonal .now in (
+      omega arith,
+      one-more p goldilocks D (l .loop .i) (l .loop .all) (l .loop .but-one) (c .product .result) (s .product-sum .result) (omega arith)
+          (nonzero-at D (l .loop .i) (g .pre .1) (omega arith)) (words-at p D (l .loop .i) (g .pre .0) (omega arith)) (l .loop .inv .1) (c .product .ensures) (s .product-sum .ensures),
+    )
 
 residue-requires : tie.Need-residue-requires Inv-loop μ-loop
 residue-requires c κs = search needs
