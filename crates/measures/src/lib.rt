@@ -1,0 +1,47 @@
+// What the benchmark calls: pieces of the core's work as C functions. They require what a validated set gives; the library's own
+// C-callable face presumes nothing and is not here.
+ghost use mathlib.Core.Path.{_≡_};
+ghost use Prim.Native.Nat.{_+_, _*_, _≤_};
+ghost use lib.ListN.{length, take};
+ghost use Rattle.modular.specs.Goldilocks.{p};
+ghost use Rattle.poseidon2.specs.Rounds.{permute};
+ghost use Rattle.poseidon2.specs.Statements.{Width, Words};
+
+// One permutation, without validation.
+#[no_mangle]
+pub extern "C" fn measured_permute(
+    width: usize,
+    half: usize,
+    partial_rounds: usize,
+    diagonal: &[u64; 12],
+    constants: &[u64; 208],
+    state: &mut [u64],
+)
+    requires { ⌜ (Width width) × (1 ≤ half) × (half ≤ 6) × («partial_rounds» ≤ 64) × (Words p (take (width * (2 * half) + «partial_rounds») (now constants))) × (length (now state) ≡ width) ⌝ }
+    ensures { λ r. ⌜ now (state .exit) ≡ permute p half «partial_rounds» (now (diagonal .entry)) (now (constants .entry)) (now (state .entry)) ⌝ }
+{
+    permutation::permute(width, half, partial_rounds, diagonal, constants, state);
+}
+
+// One validation; the row's number.
+#[no_mangle]
+pub extern "C" fn measured_validate(
+    width: u64,
+    node_size: u64,
+    height: u64,
+    full_rounds: u64,
+    partial_rounds: u64,
+    diagonal: &[u64],
+    constants: &[u64],
+) -> u8 {
+    let v = opening_tree::validate(
+        width,
+        node_size,
+        height,
+        full_rounds,
+        partial_rounds,
+        diagonal,
+        constants,
+    );
+    v.number
+}
