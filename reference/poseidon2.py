@@ -186,8 +186,15 @@ def unpermute(s: ParameterSet, state: Words) -> tuple[str, Words | int]:
     return ("words", inverse_permutation(s, state))
 
 
-def compress(s: ParameterSet, state: Words) -> tuple[str, Words | int]:
-    """The compression of t words."""
+def compress(
+    s: ParameterSet, state: Words, node_length: int
+) -> tuple[str, Words | int]:
+    """The compression of t words, to be written to a node that is lent in some length."""
+    row = row_of_set(s)
+    if row is not None:
+        return ("refused", row)
+    if node_length != s.node_size:
+        return ("refused", 10)
     row = row_of_state(s, state)
     if row is not None:
         return ("refused", row)

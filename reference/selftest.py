@@ -8,6 +8,7 @@ import random
 import sys
 from collections.abc import Callable, Iterator
 
+import cases
 import collisions
 import field
 import merkle
@@ -115,7 +116,7 @@ def worked_permutation() -> Iterator[Check]:
     for name, s in (("T", set_t()), ("U", set_u())):
         got = poseidon2.permute(s, [1, 0, 0, 0])
         yield f"permutation under {name}", got, ("words", [5, 4, 1, 1])
-        got = poseidon2.compress(s, [1, 0, 0, 0])
+        got = poseidon2.compress(s, [1, 0, 0, 0], 2)
         yield f"compression under {name}", got, ("words", [6, 4])
 
 
@@ -177,7 +178,7 @@ def worked_word() -> Iterator[Check]:
             "seventh root": field.seventh_root(n),
             "permutation": poseidon2.permute(s, [0, 0, 0, n]),
             "inverse permutation": poseidon2.unpermute(s, [n, 0, 0, 0]),
-            "compression": poseidon2.compress(s, [0, n, 0, 0]),
+            "compression": poseidon2.compress(s, [0, n, 0, 0], 2),
             "building": merkle.build(s, [0, 0, n, 0], [0] * 6),
             "storeless root": merkle.storeless_root(s, [0, 0, n, 0]),
             "verdict, root": merkle.verify(s, [6, n], 0, [1, 0], [0, 0]),
@@ -326,6 +327,23 @@ TREE_SHAPES = [
     (12, 1, 1),
     (12, 6, 0),
 ]
+
+
+# The cases that the program `vectors` is run on.
+
+
+def vectors_cases() -> Iterator[Check]:
+    """Each case is refused with the row that it is made for; all of its input fits."""
+    for _, case in cases.sets_cases():
+        kind, answer = validate(*case.validated())
+        yield f"validate {case}", 0 if kind == "set" else answer, case.row
+    for _, case in cases.states_cases():
+        state = case.state.numbers(cases.STATE_PLACES)
+        kind, answer = poseidon2.permute(case.handed(), state)
+        yield f"permute {case}", 0 if kind == "words" else answer, case.row
+    # The program's buffer has 65,536 bytes.
+    size = sum(len(line) + 1 for line in cases.lines())
+    yield "bytes of input", size <= 60000, True
 
 
 def trees() -> Iterator[Check]:
@@ -484,7 +502,8 @@ def extractor() -> Iterator[Check]:
             got = merkle.extract(s, root, place, *first, *second, a, b)
             yield "level", got, ("level", level)
             yield "rows differ", a != b, True
-            yield "rows compress alike", poseidon2.compress(s, a), poseidon2.compress(s, b)
+            l = s.node_size
+            yield "rows compress alike", poseidon2.compress(s, a, l), poseidon2.compress(s, b, l)
             at = place // arity(s) ** level % arity(s)
             others = a[:at] + a[at + 1 :]
             yield "first row", others, first[1][3 * level : 3 * level + 3]
@@ -547,6 +566,7 @@ GROUPS = [
     ("judge rows", judge_rows),
     ("handed sets", handed_sets),
     ("inverse permutations", inverse_permutations),
+    ("vectors' cases", vectors_cases),
     ("trees", trees),
     ("leaf book", leaf_book),
     ("tree refusals", tree_refusals),

@@ -43,15 +43,9 @@ a line (8 lines an entry).
 
 Part 2, seeded. For each of the six entries: the line `ENTRY seeded 2000`, then
 2000 lines, each either `R` or `refused N` and no operands. The operands are
-drawn from a generator of 64-bit numbers. It holds a number x; a draw does
-
-    x = x xor (x shifted left by 13, modulo 2^64)
-    x = x xor (x shifted right by 7)
-    x = x xor (x shifted left by 17, modulo 2^64)
-
-and the new x is the drawn number. Each entry starts a generator of its own,
-with x = 88172645463325252 + I, where I is 0 for sum, 1 for difference, and so
-on to 5 for seventh_root. To draw an operand: draw a number x; if x mod 16 is 0
+drawn from the generator of 64-bit numbers that generator.py describes. Each
+entry starts a generator of its own, with seed I, where I is 0 for sum, 1 for
+difference, and so on to 5 for seventh_root. To draw an operand: draw a number x; if x mod 16 is 0
 the operand is x with its high 32 bits all set to one, otherwise it is x. (The
 generator goes on from the drawn x, not from the operand.) For each line: sum,
 difference and product draw the operand A, then the operand B; power draws the
@@ -59,13 +53,56 @@ operand A, then the exponent B as a plain drawn number; inverse and seventh_root
 draw the operand A.
 
 The section has 1 + 9 + 4 * 64 + 2 * 8 + 6 * 2001 = 12288 lines.
+
+The other sections are driven by the program's input, which cases.py makes and
+whose grammar its docstring gives: a line of the input is a line of the output.
+An entry that is turned back is printed as ` refused N`, where N is the row's
+number. The digest of a list of numbers starts with d = 1 and does, for each
+number x in order, d = 31 * d + x modulo 2^64.
+
+SECTION sets
+
+Its header line is `section sets`. The line of a case is one of
+
+    T L H F R validate accepted DIGEST
+    T L H F R validate refused N
+
+where T L H F R are the five numbers that were handed in, and DIGEST is the
+digest of all that the answered set holds: its five numbers, its 12 places for
+D and its 208 for C.
+
+SECTION states
+
+Its header line is `section states`. The set is handed to the entries as the
+input has it, validated or not. A buffer that an entry was to write to is given
+as it is after the call; after a refusal it is compared with what it held
+before, and `kept` or `changed` is printed. The lines are
+
+    T L H F R permute A unpermute B compress C             in full
+    T L H F R permute A unpermute B compress C back        as digests
+
+where A is permute's answer for the state and C is compress's. B is unpermute's
+answer: in full, for what permute left; as digests, for the state. Each is one of
+
+    = W W ...                 in full: the buffer's numbers
+    DIGEST                    as digests: the digest of the buffer's numbers
+    refused N kept            or refused N changed
+
+The last word is `back` where unpermute of what permute left is the state and
+permute of what unpermute left is the state (so also where they are refused and
+leave the state), otherwise `lost`.
 """
 
 import signal
 from collections.abc import Callable, Iterator
 
+import cases
 import field
+import poseidon2
+from cases import Case
 from field import P
+from generator import drawn_numbers
+from parameters import ParameterSet, validate
 
 ENTRIES = [
     ("sum", field.sum),
@@ -91,19 +128,8 @@ WORKED = [
 ]
 EDGES = [0, 1, 2**32 - 1, 2**32, 2**32 + 1, P - 1, P, 2**64 - 1]
 
-SEED = 88172645463325252
 SEEDED_LINES = 2000
 HIGH_HALF = 2**64 - 2**32
-
-
-def drawn_numbers(seed: int) -> Iterator[int]:
-    """The generator of 64-bit numbers, started at a seed."""
-    x = seed
-    while True:
-        x ^= (x << 13) % 2**64
-        x ^= x >> 7
-        x ^= (x << 17) % 2**64
-        yield x
 
 
 def draw_operand(numbers: Iterator[int]) -> int:
@@ -151,7 +177,7 @@ def field_lines_seeded() -> Iterator[str]:
     """Part 2 of the field: seeded operands."""
     for index, (name, entry) in enumerate(ENTRIES):
         yield f"{name} seeded {SEEDED_LINES}"
-        numbers = drawn_numbers(SEED + index)
+        numbers = drawn_numbers(index)
         for _ in range(SEEDED_LINES):
             yield seeded_line(entry, draw_operands(name, numbers))
 
@@ -162,9 +188,90 @@ def field_section() -> Iterator[str]:
     yield from field_lines_seeded()
 
 
+def digest(numbers: list[int]) -> int:
+    """The digest of a list of numbers."""
+    d = 1
+    for x in numbers:
+        d = (31 * d + x) % 2**64
+    return d
+
+
+def digest_of_set(s: ParameterSet) -> int:
+    """The digest of all that a set holds."""
+    numbers = [s.width, s.node_size, s.height, s.full_rounds, s.partial_rounds]
+    return digest(numbers + s.diagonal + s.constants)
+
+
+def case_line(case: Case, *parts: str) -> str:
+    """A line that begins with the five numbers."""
+    return " ".join([*map(str, case.five()), *parts])
+
+
+def sets_section() -> Iterator[str]:
+    """Section sets."""
+    for _, case in cases.sets_cases():
+        kind, answer = validate(*case.validated())
+        if kind == "set":
+            yield case_line(case, "validate", "accepted", str(digest_of_set(answer)))
+        else:
+            yield case_line(case, "validate", "refused", str(answer))
+
+
+# An entry's answer and the buffer after the call: a row that refuses, or None.
+Called = tuple[int | None, list[int]]
+
+
+def in_place(entry: Callable, s: ParameterSet, state: list[int]) -> Called:
+    """An entry that works in place; a refusal leaves the buffer as it was."""
+    kind, answer = entry(s, state)
+    return (None, answer) if kind == "words" else (answer, state)
+
+
+def to_node(s: ParameterSet, state: list[int], length: int) -> Called:
+    """Compression to a node that holds sevens; a refusal leaves it as it was."""
+    kind, answer = poseidon2.compress(s, state, length)
+    return (None, answer) if kind == "words" else (answer, [7] * length)
+
+
+def in_full(called: Called) -> str:
+    """The buffer's numbers, or the refusal."""
+    row, buffer = called
+    return " ".join(["=", *map(str, buffer)]) if row is None else f"refused {row} kept"
+
+
+def as_digest(called: Called) -> str:
+    """The digest of the buffer's numbers, or the refusal."""
+    row, buffer = called
+    return str(digest(buffer)) if row is None else f"refused {row} kept"
+
+
+def states_line(what: int, case: Case) -> str:
+    """The three entries' answers, and as digests whether the first two undo each other."""
+    s, state = case.handed(), case.state.numbers(cases.STATE_PLACES)
+    permuted = in_place(poseidon2.permute, s, state)
+    unpermuted = in_place(poseidon2.unpermute, s, state)
+    undone = in_place(poseidon2.unpermute, s, permuted[1])
+    redone = in_place(poseidon2.permute, s, unpermuted[1])
+    node = to_node(s, state, case.node)
+    if what == cases.IN_FULL:
+        a, b, c = in_full(permuted), in_full(undone), in_full(node)
+        return case_line(case, "permute", a, "unpermute", b, "compress", c)
+    a, b, c = as_digest(permuted), as_digest(unpermuted), as_digest(node)
+    back = "back" if undone[1] == redone[1] == state else "lost"
+    return case_line(case, "permute", a, "unpermute", b, "compress", c, back)
+
+
+def states_section() -> Iterator[str]:
+    """Section states."""
+    for what, case in cases.states_cases():
+        yield states_line(what, case)
+
+
 # A later section is one more function here, and its description above.
 SECTIONS = [
     ("field", field_section),
+    ("sets", sets_section),
+    ("states", states_section),
 ]
 
 

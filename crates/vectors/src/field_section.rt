@@ -1,12 +1,9 @@
 // The section `field`: an entry is named by its index, 0 for sum to 5 for seventh_root.
-use crate::output;
+use harness::generator;
+use harness::output;
 use opening_tree::Answer;
-use std::num::wrapping_add_u64;
 
 const P: u64 = 18446744069414584321;
-
-// the first seed, to which an entry's index is added
-const SEED: u64 = 88172645463325252;
 
 const SEEDED_LINES: u64 = 2000;
 
@@ -111,23 +108,16 @@ fn edges_of_one(entry: u64) {
     }
 }
 
-// The generator's next number.
-fn next(x: u64) -> u64 {
-    let a = x ^ (x << 13);
-    let b = a ^ (a >> 7);
-    b ^ (b << 17)
-}
-
 // A drawn number as an operand: one in sixteen has its high bits set, and mostly is no word.
 fn operand(x: u64) -> u64 {
     if x % 16 == 0 { x | HIGH_HALF } else { x }
 }
 
 fn seeded_of_two(entry: u64) {
-    let mut x = wrapping_add_u64(SEED, entry);
+    let mut x = generator::start(entry);
     for _ in 0..SEEDED_LINES {
-        let a = next(x);
-        x = next(a);
+        let a = generator::next(x);
+        x = generator::next(a);
         if entry == 3 {
             answer_line(entry, operand(a), x);
         } else {
@@ -137,9 +127,9 @@ fn seeded_of_two(entry: u64) {
 }
 
 fn seeded_of_one(entry: u64) {
-    let mut x = wrapping_add_u64(SEED, entry);
+    let mut x = generator::start(entry);
     for _ in 0..SEEDED_LINES {
-        x = next(x);
+        x = generator::next(x);
         answer_line(entry, operand(x), 0);
     }
 }

@@ -9,8 +9,8 @@ Inv-loop entry x₀ counter₀ x counter = counter ≤ 2000
 abbrev μ-loop : tie.MeasureT-loop
 μ-loop entry x₀ counter₀ x counter = 2000 - counter
 
-wrapping-add-u64-requires : tie.Need-wrapping-add-u64-requires Inv-loop μ-loop
-wrapping-add-u64-requires c κs = search needs
+start-requires : tie.Need-start-requires Inv-loop μ-loop
+start-requires c κs = search needs
 
 loop-holds : tie.Need-loop-holds Inv-loop μ-loop
 loop-holds c = search needs
@@ -54,7 +54,7 @@ seeded-of-two-spec =
     (tie.spec
     Inv-loop
     μ-loop
-    wrapping-add-u64-requires
+    start-requires
     loop-holds
     next-requires
     next-requires-2
