@@ -4,7 +4,7 @@
 
 run:
 	rt check vectors
-	target/bin/vectors | sed -n '2,10p'
+	target/bin/vectors < crates/vectors/stdin | sed -n '2,10p'
 
 test:
 	bash .ci/run
