@@ -19,6 +19,12 @@ second-bad a b e f = rw (e, f)
 pub both-good : (a b : Bool) → a ≡ true → b ≡ true → not (a && b) ≡ false
 both-good a b e f = rw (e, f)
 
+pub and-false-left : (a b : Bool) → a ≡ false → (a && b) ≡ false
+and-false-left a b e = rw e
+
+pub and-false-right : (a b : Bool) → a ≡ true → b ≡ false → (a && b) ≡ false
+and-false-right a b e f = rw (e, f)
+
 module _ (p : ℕ) (rows : List TableRow) (N : Numbered rows) (badLength : Bool) (xs : List ℕ) where
   abbrev pub all : List TableRow
   all = rows ++ (row 10 badLength ∷ notWords p xs ∷ [])

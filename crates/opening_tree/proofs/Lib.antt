@@ -3,4 +3,6 @@ pub mod Worked
 mod Operands
 mod AcceptedSets
 mod LengthsAndWords
+mod LengthsPlacesAndWords
 mod AcceptedStates
+mod AcceptedTrees

@@ -7,6 +7,8 @@ use Rattle.modular.specs.Goldilocks.{p}
 use Rattle.poseidon2.specs.Layers.{m4, external, internal}
 use Rattle.poseidon2.specs.Rounds.{permute}
 use Rattle.poseidon2.specs.Compression.{compress}
+use Rattle.merkle.specs.Levels.{Shape, build, root}
+use Rattle.trees.specs.Shapes.{shape}
 
 -- What the definitions give, and what the document says.
 pub record Case : Type 0 where
@@ -49,8 +51,15 @@ permutationCases =
     case (permute p 1 1 tDiagonal uConstants one) (5 ∷ 4 ∷ 1 ∷ 1 ∷ []) ∷
     case (compress p 2 1 1 tDiagonal uConstants one) (6 ∷ 4 ∷ []) ∷ []
 
+-- "T, leaves (1,0),(0,0): root (6,4)."
+abbrev pub tTree : Shape
+tTree = shape p 4 2 1 0 tDiagonal tConstants
+
+abbrev pub treeCases : List Case
+treeCases = case (root tTree (build tTree 1 one)) (6 ∷ 4 ∷ []) ∷ []
+
 abbrev pub starred : List Case
-starred = fieldCases ++ permutationCases
+starred = fieldCases ++ (permutationCases ++ treeCases)
 
 abbrev pub AllHold : List Case → Type 0
 AllHold [] = Unit {0}

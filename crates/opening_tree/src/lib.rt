@@ -4,6 +4,8 @@ pub mod arithmetic;
 pub mod outcome;
 pub mod sets;
 pub mod states;
+pub mod tree;
+pub mod verdict;
 
 pub use arithmetic::Answer;
 pub use arithmetic::difference;
@@ -17,3 +19,9 @@ pub use sets::validate;
 pub use states::compress;
 pub use states::permute;
 pub use states::unpermute;
+pub use tree::build;
+pub use tree::open;
+pub use tree::root;
+pub use tree::storeless_root;
+pub use tree::verify;
+pub use verdict::Verdict;

@@ -1,0 +1,8 @@
+// What the verification of an opening answers.
+
+// The opening is accepted or rejected, or the number of the table's row that turns the call back.
+pub enum Verdict {
+    Accepted,
+    Rejected,
+    Refused(u8),
+}

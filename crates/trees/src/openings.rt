@@ -1,0 +1,92 @@
+// The opening of a place, read from a store.
+ghost use mathlib.Core.Path.{_≡_};
+ghost use mathlib.Core.List.{List};
+ghost use Prim.Native.Nat.{ℕ, _+_, _*_, _-_, _^_, _≤_, _<_};
+ghost use lib.ListN.{length};
+ghost use Rattle.modular.specs.Arithmetic.{allWords};
+ghost use Rattle.modular.specs.Goldilocks.{p};
+ghost use Rattle.merkle.specs.Levels.{size, row};
+ghost use Rattle.merkle.specs.Lists.{put};
+ghost use Rattle.merkle.specs.Openings.{without, opening};
+ghost use Rattle.trees.specs.Shapes.{tree, ValidNumbers};
+use crate::Dimensions;
+use crate::nodes;
+use crate::sizes;
+
+// Row n of the store without its node c is copied to the target from `to` on.
+fn copy_siblings(d: Dimensions, store: &[u64], n: usize, c: usize, target: &mut [u64], to: usize)
+    requires { ⌜ (ValidNumbers d) × (n * (d .arity * d .«node_size») + d .arity * d .«node_size» ≤ length (now store)) × (c < d .arity)
+        × (to + (d .arity - 1) * d .«node_size» ≤ length (now target)) ⌝ }
+    ensures { λ r. ⌜ ((D C : List ℕ) → now (target .exit) ≡ put (now (target .entry)) to (without (tree d D C) c (row (tree d D C) n (now (store .entry))))) ⌝ }
+{
+    let node_size = d.node_size;
+    let width = d.arity * node_size;
+    let start = n * width;
+    let before = c * node_size;
+    nodes::copy_words(store, start, before, target, to);
+    nodes::copy_words(
+        store,
+        start + before + node_size,
+        width - before - node_size,
+        target,
+        to + before,
+    );
+}
+
+// The siblings of the h nodes from the place on, ascending.
+pub fn open(d: Dimensions, store: &[u64], place: usize, siblings: &mut [u64])
+    requires { ⌜ (ValidNumbers d) × ((D C : List ℕ) → length (now store) ≡ size (tree d D C) (d .height)) × (place < d .arity ^ d .height)
+        × (length (now siblings) ≡ d .height * ((d .arity - 1) * d .«node_size»)) ⌝ }
+    ensures { λ r. ⌜ ((D C : List ℕ) → now (siblings .exit) ≡ opening (tree d D C) (d .height) place (now (store .entry))) ⌝ }
+{
+    let arity = d.arity;
+    let height = d.height;
+    let leaves = sizes::leaf_count(arity, height);
+    let beside = (arity - 1) * d.node_size;
+    let mut number: usize = place;
+    let mut level: usize = 0;
+    while level < height {
+        let n = number / arity;
+        copy_siblings(d, store, n, number % arity, siblings, level * beside);
+        number = leaves + n;
+        level += 1;
+    }
+}
+
+// Whether row n of the store without its node c is words.
+fn siblings_are_words(d: Dimensions, store: &[u64], n: usize, c: usize) -> bool
+    requires { ⌜ (ValidNumbers d) × (n * (d .arity * d .«node_size») + d .arity * d .«node_size» ≤ length (now store)) × (c < d .arity) ⌝ }
+    ensures { λ r. ⌜ ((D C : List ℕ) → r ≡ allWords p (without (tree d D C) c (row (tree d D C) n (now (store .entry))))) ⌝ }
+{
+    let node_size = d.node_size;
+    let width = d.arity * node_size;
+    let start = n * width;
+    let own = start + c * node_size;
+    let behind = own + node_size;
+    let end = start + width;
+    if !parameters::all_words(&store[start..own]) {
+        return false;
+    }
+    parameters::all_words(&store[behind..end])
+}
+
+// Whether the opening is words: it reads what `open` copies.
+pub fn opening_is_words(d: Dimensions, store: &[u64], place: usize) -> bool
+    requires { ⌜ (ValidNumbers d) × ((D C : List ℕ) → length (now store) ≡ size (tree d D C) (d .height)) × (place < d .arity ^ d .height) ⌝ }
+    ensures { λ r. ⌜ ((D C : List ℕ) → r ≡ allWords p (opening (tree d D C) (d .height) place (now (store .entry)))) ⌝ }
+{
+    let arity = d.arity;
+    let height = d.height;
+    let leaves = sizes::leaf_count(arity, height);
+    let mut number = place;
+    let mut level: usize = 0;
+    while level < height {
+        let n = number / arity;
+        if !siblings_are_words(d, store, n, number % arity) {
+            return false;
+        }
+        number = leaves + n;
+        level += 1;
+    }
+    true
+}
