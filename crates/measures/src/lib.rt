@@ -6,6 +6,7 @@ ghost use lib.ListN.{length, take};
 ghost use Rattle.modular.specs.Goldilocks.{p};
 ghost use Rattle.poseidon2.specs.Rounds.{permute};
 ghost use Rattle.poseidon2.specs.Statements.{Width, Words};
+use opening_tree::Outcome;
 
 // One permutation, without validation.
 #[no_mangle]
@@ -44,4 +45,37 @@ pub extern "C" fn measured_validate(
         constants,
     );
     v.number
+}
+
+// A whole store: one validation and a build; the row's number.
+#[no_mangle]
+pub extern "C" fn measured_build(
+    width: u64,
+    node_size: u64,
+    height: u64,
+    full_rounds: u64,
+    partial_rounds: u64,
+    diagonal: &[u64],
+    constants: &[u64],
+    leaves: &[u64],
+    store: &mut [u64],
+) -> u8 {
+    let v = opening_tree::validate(
+        width,
+        node_size,
+        height,
+        full_rounds,
+        partial_rounds,
+        diagonal,
+        constants,
+    );
+    let number = v.number;
+    if number != 0 {
+        return number;
+    }
+    let set = v.parameters;
+    match opening_tree::build(set, leaves, store) {
+        Outcome::Done => 0,
+        Outcome::Refused(n) => n,
+    }
 }
