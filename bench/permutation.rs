@@ -2,7 +2,7 @@
 //! `plain` brings every sum and product below p; `tuned` keeps lazy numbers below 2^64 and sums in u128, as the proved code does by
 //! other means. What counts is the ratio of the best rounds.
 mod poseidon2;
-use poseidon2::{plain, tuned, P};
+use poseidon2::{plain, seeded, tuned};
 use std::hint::black_box;
 use std::time::Instant;
 
@@ -89,13 +89,7 @@ fn measure<const T: usize>(rounds: usize, draw: &mut impl FnMut() -> u64) {
 
 fn main() {
     let rounds = std::env::args().nth(1).map_or(300, |n| n.parse().expect("a number of rounds"));
-    let mut x = 88172645463325252u64;
-    let mut draw = move || {
-        x ^= x << 13;
-        x ^= x >> 7;
-        x ^= x << 17;
-        x % P
-    };
+    let mut draw = seeded();
     println!("R_F = 8, R_P = 22; the best of {rounds} interleaved rounds of {CALLS} calls");
     measure::<4>(rounds, &mut draw);
     measure::<8>(rounds, &mut draw);

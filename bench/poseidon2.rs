@@ -2,6 +2,17 @@
 pub const P: u64 = 0xFFFF_FFFF_0000_0001;
 const EPSILON: u64 = 0xFFFF_FFFF;
 
+/// Seeded words.
+pub fn seeded() -> impl FnMut() -> u64 {
+    let mut x = 88172645463325252u64;
+    move || {
+        x ^= x << 13;
+        x ^= x >> 7;
+        x ^= x << 17;
+        x % P
+    }
+}
+
 #[inline(always)]
 fn residue(x: u64) -> u64 {
     if x >= P { x - P } else { x }

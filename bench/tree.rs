@@ -2,7 +2,7 @@
 //! The proved time includes one validation of the set. Both write the whole store into memory that was written before.
 #[allow(dead_code)]
 mod poseidon2;
-use poseidon2::{tuned, P};
+use poseidon2::{seeded, tuned, P};
 use std::time::Instant;
 
 #[link(name = "measures", kind = "static")]
@@ -69,13 +69,7 @@ fn measure<const T: usize>(l: usize, h: u32, rounds: usize, draw: &mut impl FnMu
 
 fn main() {
     let rounds = std::env::args().nth(1).map_or(5, |n| n.parse().expect("a number of rounds"));
-    let mut x = 88172645463325252u64;
-    let mut draw = move || {
-        x ^= x << 13;
-        x ^= x >> 7;
-        x ^= x << 17;
-        x % P
-    };
+    let mut draw = seeded();
     println!("R_F = {FULL}, R_P = {PARTIAL}; the best of {rounds} interleaved rounds");
     measure::<12>(6, 16, rounds, &mut draw);
     measure::<12>(1, 4, rounds, &mut draw);
