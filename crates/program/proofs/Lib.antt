@@ -1,0 +1,4 @@
+-- The laws that the proofs cite.
+mod Texts
+mod ProgramInput
+mod ProgramReply

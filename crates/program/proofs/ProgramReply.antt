@@ -1,0 +1,210 @@
+-- The program's reply, by what validation and the storeless root answer.
+use mathlib.Core.Path.{_≡_, refl, sym, ap, _∙_}
+use mathlib.Core.Logic.{_≢_}
+use mathlib.Core.Bool.{Bool, true, false, not, _&&_, cond}
+use mathlib.Core.List.{List, [], _∷_, _++_}
+use Prim.Native.Nat.{ℕ, _/_, _%_, _≤_, _<_}
+use native.Mathlib.Omega.{arith}
+use native.Mathlib.Nat.{mul-le-mul-right, div-mul-le-self}
+use lib.Dec.{eqb, lit<}
+use lib.ListN.{length}
+use lib.Seq.{take-at}
+use borrow.Author.Tests.{lt-ltb, le-ltb, eq-eqb, ne-eqb, eqb-true, not-false}
+use Rattle.modular.proofs.Words.{left-true, right-true}
+use Rattle.refusals.specs.Table.{TableRow, row, notWords, firstRow, refused, done, reply, after}
+use Rattle.refusals.proofs.Table.{Numbered, next, numbered-append, row-none, first-front, first-back, first-none, reply-refused, written-after, applied, passed}
+use Rattle.parameters.specs.declared.ParameterSet.{ParameterSet}
+use Rattle.parameters.specs.declared.Validation.{Validation}
+use Rattle.parameters.specs.ParameterSet.{held, padded, refusal, validation, heldRows, setRows}
+use Rattle.parameters.specs.Rows.{constantCount, numberRows, listRows, badLengths, validationRows}
+use Rattle.parameters.proofs.Accepted.{numbers-of, numbers-numbered, lists-numbered, set-numbered, width-fits}
+use Rattle.merkle.specs.Storeless.{storelessRoot}
+use Rattle.opening_tree.specs.declared.outcome.Outcome.{Outcome}
+use Rattle.opening_tree.specs.declared.outcome.Outcome.the-variants.{Done, Refused}
+use Rattle.opening_tree.specs.Permutation.{outcomeReply}
+use Rattle.opening_tree.specs.Trees.{treeOf, leafWords, has, storelessRows, storelessReply, storelessRooted}
+use Rattle.program.specs.Program.{readWidth, readNodeSize, readHeight, readFullRounds, readPartialRounds, readDiagonal, readConstants, readLeaves, readSet, readValidation, readRows, readRoot, badByteCount, programReply, numbersOf, lines, refusedLine, replyText, rootText, decimal, digits, EmptyInput}
+
+-- Rows that do not apply leave the reply to those after them.
+reply-back : (rows more : List TableRow) (result : List ℕ) → Numbered rows → firstRow rows ≡ 0 → reply (rows ++ more) result ≡ reply more result
+unfolding firstRow reply
+reply-back [] more result N e = refl
+reply-back (r ∷ rows) more result (next h N) e = at (r .applies) (reply-back rows more result N) e
+  where
+    at : (b : Bool) → (firstRow rows ≡ 0 → reply (rows ++ more) result ≡ reply more result) → cond b (r .number) (firstRow rows) ≡ 0
+        → cond b (refused (r .number)) (reply (rows ++ more) result) ≡ reply more result
+    at true ih e = absurd (omega arith)
+    at false ih e = ih e
+
+-- A reply of other results: the same refusal, or the result.
+refused-too : (rows : List TableRow) (result other : List ℕ) (n : ℕ) → refused n ≡ reply rows result → reply rows other ≡ refused n
+unfolding reply
+refused-too [] result other n e = absurd (let z : _≡_ {A = ℕ} 0 1 = cc in omega arith)
+refused-too (r ∷ rows) result other n e = at (r .applies) (refused-too rows result other n) e
+  where
+    at : (b : Bool) → (refused n ≡ reply rows result → reply rows other ≡ refused n) → refused n ≡ cond b (refused (r .number)) (reply rows result)
+        → cond b (refused (r .number)) (reply rows other) ≡ refused n
+    at true ih e = sym e
+    at false ih e = ih e
+
+done-too : (rows : List TableRow) (result other : List ℕ) → done result ≡ reply rows result → reply rows other ≡ done other
+unfolding reply
+done-too [] result other e = refl
+done-too (r ∷ rows) result other e = at (r .applies) (done-too rows result other) e
+  where
+    at : (b : Bool) → (done result ≡ reply rows result → reply rows other ≡ done other) → done result ≡ cond b (refused (r .number)) (reply rows result)
+        → cond b (refused (r .number)) (reply rows other) ≡ done other
+    at true ih e = absurd (let z : _≡_ {A = ℕ} 0 1 = cc in omega arith)
+    at false ih e = ih e
+
+and-true : (a b : Bool) → b ≡ true → (a && b) ≡ a
+and-true true b e = e
+and-true false b e = refl
+
+-- What validation says of its rows.
+module _ (p t l h rf rp : ℕ) (D C : List ℕ) where
+  abbrev rows : List TableRow
+  rows = validationRows p t l h rf rp D C
+
+  rows-numbered : Numbered rows
+  unfolding validationRows
+  rows-numbered = numbered-append (numbers-numbered t l h rf rp) (next (lit< tt) (lists-numbered p D C))
+
+  number-is : validation p t l h rf rp D C .number ≡ firstRow rows
+  unfolding validation refusal
+  number-is = at (eqb (firstRow rows) 0) refl
+    where
+      at : (b : Bool) → eqb (firstRow rows) 0 ≡ b
+          → cond b (record { number = 0; parameters = held t l h rf rp D C }) (refusal (firstRow rows)) .number ≡ firstRow rows
+      at true e = sym (eqb-true (firstRow rows) 0 e)
+      at false e = refl
+
+  module _ (none-applies : firstRow rows ≡ 0) where
+    set-is : validation p t l h rf rp D C .parameters ≡ held t l h rf rp D C
+    unfolding validation
+    set-is = rw (eq-eqb (firstRow rows) 0 none-applies)
+
+    parts : (firstRow (numberRows t l h rf rp) ≡ 0) × (firstRow (row 6 (badLengths t rf rp D C) ∷ listRows p D C) ≡ 0)
+    unfolding validationRows
+    parts = first-none (numberRows t l h rf rp) (row 6 (badLengths t rf rp D C) ∷ listRows p D C) (numbers-numbered t l h rf rp) none-applies
+
+    lengths : (length D ≡ t) × (length C ≡ constantCount t rf rp)
+    unfolding badLengths
+    lengths =
+        let b = not-false (eqb (length D) t && eqb (length C) (constantCount t rf rp)) (row-none 5 (badLengths t rf rp D C) (listRows p D C) (parts .1) .0) in (
+          eqb-true (length D) t (left-true (eqb (length D) t) (eqb (length C) (constantCount t rf rp)) b),
+          eqb-true (length C) (constantCount t rf rp) (right-true (eqb (length D) t) (eqb (length C) (constantCount t rf rp)) b),
+        )
+
+    -- the set that is held passes its own rows
+    passes-again : firstRow (setRows p (held t l h rf rp D C)) ≡ 0
+    unfolding setRows heldRows held padded
+    passes-again =
+        rw (take-at D _ t (lengths .0), take-at C _ (constantCount t rf rp) (lengths .1))
+        (first-back (numberRows t l h rf rp) (listRows p D C) (numbers-numbered t l h rf rp) (parts .0)
+        ∙ row-none 5 (badLengths t rf rp D C) (listRows p D C) (parts .1) .1)
+
+    node-few : l ≤ 6
+    node-few =
+        let N = numbers-of t l h rf rp (parts .0) in
+        omega (arith, mul-le-mul-right l (N .nodeSize .several), div-mul-le-self t l, width-fits t (N .width))
+
+module _ (p : ℕ) (ns : List ℕ) (v : Validation) (e : v ≡ readValidation p ns) where
+  abbrev validRows : List TableRow
+  validRows = rows p (readWidth ns) (readNodeSize ns) (readHeight ns) (readFullRounds ns) (readPartialRounds ns) (readDiagonal ns) (readConstants ns)
+
+  abbrev leafRows : List TableRow
+  leafRows = row 10 (not (has (readLeaves ns) (leafWords p (readSet ns)))) ∷ notWords p (readLeaves ns) ∷ []
+
+  first-is : v .number ≡ firstRow validRows
+  unfolding readValidation
+  first-is = ap (λ (w : Validation). w .number) e ∙ number-is p _ _ _ _ _ _ _
+
+  -- A set that is turned down.
+  pub turned-down : v .number ≢ 0 → reply (readRows p ns) (readRoot p ns) ≡ refused (v .number)
+  unfolding readRows
+  turned-down o =
+      let front : firstRow (validRows ++ leafRows) ≡ firstRow validRows = first-front validRows leafRows (λ z. o (first-is ∙ z)) in
+      reply-refused (validRows ++ leafRows) (readRoot p ns) (λ z. o (first-is ∙ sym front ∙ z)) ∙ ap refused (front ∙ sym first-is)
+
+  module _ (z : v .number ≡ 0) where
+    none-of : firstRow validRows ≡ 0
+    none-of = sym first-is ∙ z
+
+    set-of : v .parameters ≡ readSet ns
+    unfolding readValidation
+    set-of = ap (λ (w : Validation). w .parameters) e ∙ set-is p _ _ _ _ _ _ _ none-of
+
+    pub node-size-few : v .parameters .«node_size» ≤ 6
+    unfolding held
+    node-size-few = rw set-of (node-few p _ _ _ _ _ _ _ none-of)
+
+    module _ (node : List ℕ) (long : length node ≡ v .parameters .«node_size») where
+      -- the storeless root's reply is that of the leaves' rows
+      by-leaves : storelessReply p (v .parameters) (readLeaves ns) node ≡ reply leafRows []
+      unfolding storelessReply storelessRows
+      by-leaves = rw (and-true (has (readLeaves ns) (leafWords p (v .parameters))) (has node (v .parameters .«node_size»)) (eq-eqb _ _ long), set-of)
+          (reply-back (setRows p (readSet ns)) leafRows [] (set-numbered p (readSet ns)) (passes-again p _ _ _ _ _ _ _ none-of))
+
+      by-rows : reply (readRows p ns) (readRoot p ns) ≡ reply leafRows (readRoot p ns)
+      unfolding readRows
+      by-rows = reply-back validRows leafRows (readRoot p ns) (rows-numbered p _ _ _ _ _ _ _) none-of
+
+      -- The leaves are turned down, or there is a root.
+      pub root-refused : (n : ℕ) → refused n ≡ storelessReply p (v .parameters) (readLeaves ns) node → reply (readRows p ns) (readRoot p ns) ≡ refused n
+      root-refused n r = by-rows ∙ refused-too leafRows [] (readRoot p ns) n (r ∙ by-leaves)
+
+      pub root-done : done [] ≡ storelessReply p (v .parameters) (readLeaves ns) node
+          → reply (readRows p ns) (readRoot p ns) ≡ done (storelessRooted p (v .parameters) (readLeaves ns) node)
+      unfolding storelessRooted readRoot held
+      root-done r =
+          by-rows ∙ done-too leafRows [] (readRoot p ns) (r ∙ by-leaves)
+          ∙ ap done (written-after node (readRoot p ns) (sym r) ∙ ap (λ (s : ParameterSet). after (storelessReply p (v .parameters) (readLeaves ns) node) node (storelessRoot (treeOf p s) (s .height) (readLeaves ns))) (sym set-of))
+
+      -- The program's text, by the outcome.
+      pub refused-text : (leaves : List ℕ) (o : Outcome) (n : ℕ) → leaves ≡ readLeaves ns → o ≡ Refused n → outcomeReply o ≡ storelessReply p (v .parameters) leaves node
+          → refusedLine n ≡ replyText (reply (readRows p ns) (readRoot p ns))
+      unfolding outcomeReply replyText
+      refused-text leaves o n same told r =
+          let turned : refused n ≡ storelessReply p (v .parameters) (readLeaves ns) node = sym (ap outcomeReply told) ∙ r ∙ ap (λ (xs : List ℕ). storelessReply p (v .parameters) xs node) same in
+          sym (ap replyText (root-refused n turned))
+
+      pub done-text : (leaves written : List ℕ) (o : Outcome) → leaves ≡ readLeaves ns → o ≡ Done → outcomeReply o ≡ storelessReply p (v .parameters) leaves node
+          → written ≡ storelessRooted p (v .parameters) leaves node → lines written ≡ replyText (reply (readRows p ns) (readRoot p ns))
+      unfolding outcomeReply replyText
+      done-text leaves written o same told r w =
+          let made : done [] ≡ storelessReply p (v .parameters) (readLeaves ns) node = sym (ap outcomeReply told) ∙ r ∙ ap (λ (xs : List ℕ). storelessReply p (v .parameters) xs node) same in
+          ap lines (w ∙ ap (λ (xs : List ℕ). storelessRooted p (v .parameters) xs node) same) ∙ sym (ap replyText (root-done made))
+
+-- The byte count, tested before every other row.
+module _ (n : ℕ) where
+  pub count-short : n < 40 → badByteCount n ≡ true
+  unfolding badByteCount
+  count-short h = rw (lt-ltb n 40 h)
+
+  pub count-long : 40 ≤ n → 65536 < n → badByteCount n ≡ true
+  unfolding badByteCount
+  count-long h g = rw (le-ltb n 40 h, lt-ltb 65536 n g)
+
+  pub count-odd : 40 ≤ n → n ≤ 65536 → n % 8 ≢ 0 → badByteCount n ≡ true
+  unfolding badByteCount
+  count-odd h g o = rw (le-ltb n 40 h, le-ltb 65536 n g, ne-eqb (n % 8) 0 o)
+
+  pub count-right : 40 ≤ n → n ≤ 65536 → n % 8 ≡ 0 → badByteCount n ≡ false
+  unfolding badByteCount
+  count-right h g e = rw (le-ltb n 40 h, le-ltb 65536 n g, eq-eqb (n % 8) 0 e)
+
+pub text-of-bad-count : (p : ℕ) (bytes : List ℕ) → badByteCount (length bytes) ≡ true → refusedLine 10 ≡ rootText p bytes
+unfolding rootText programReply replyText
+text-of-bad-count p bytes e = sym (ap replyText (applied 10 (badByteCount (length bytes)) _ _ e))
+
+pub text-of-numbers : (p : ℕ) (bytes ns : List ℕ) (n : ℕ) → badByteCount (length bytes) ≡ false → n ≡ length bytes / 8 → ns ≡ numbersOf n bytes
+    → replyText (reply (readRows p ns) (readRoot p ns)) ≡ rootText p bytes
+unfolding rootText programReply
+text-of-numbers p bytes ns n e i d =
+    ap (λ (xs : List ℕ). replyText (reply (readRows p xs) (readRoot p xs))) (d ∙ ap (λ (k : ℕ). numbersOf k bytes) i)
+    ∙ sym (ap replyText (passed 10 (badByteCount (length bytes)) _ _ e))
+
+pub empty-input : EmptyInput
+unfolding refusedLine decimal digits
+empty-input p = sym (text-of-bad-count p [] (count-short 0 (lit< tt)))

@@ -1,0 +1,87 @@
+use mathlib.Core.Path.{_≡_, refl, ap, _∙_}
+use Prim.Native.Nat.{ℕ, _*_, _-_, _≤_}
+use native.Mathlib.Omega.{arith}
+use lib.ListN.{length, take, getD}
+use lib.Seq.{take-length}
+use Rattle.program.specs.Program.{lines}
+use Rattle.program.proofs.Texts.{decimal-word, appended-both, lined}
+use Rattle.program.proofs.put_lines.Statement.{statement}
+use Rattle.program.proofs.put_lines.Tie as tie
+
+abbrev Inv-loop : tie.InvT-loop
+Inv-loop words output₀ at₀ i₀ output at i = (i ≤ length words) × (length output ≡ length output₀) × (at ≤ 21 * i) × (take at output ≡ lines (take i words))
+
+abbrev μ-loop : tie.MeasureT-loop
+μ-loop words output₀ at₀ i₀ output at i = length words - i
+
+loop-holds : tie.Need-loop-holds Inv-loop μ-loop
+unfolding lines
+loop-holds c = (omega arith, refl, omega arith, refl)
+
+mul-put-decimal : tie.Need-mul-put-decimal Inv-loop μ-loop
+mul-put-decimal c = omega arith
+
+shared-slice-read-put-decimal : tie.Need-shared-slice-read-put-decimal Inv-loop μ-loop
+shared-slice-read-put-decimal c = omega arith
+
+put-decimal-requires : tie.Need-put-decimal-requires Inv-loop μ-loop
+put-decimal-requires c κs =
+    let l = c .before .before .before in
+    let s = l .before .before .before in
+    let i = l .loop .i in
+    omega (arith, s .pre, decimal-word (getD (s .args .words .now) i 0) (omega (arith, c .before .shared-slice-known2 .given i)))
+
+put-byte-requires : tie.Need-put-byte-requires Inv-loop μ-loop
+put-byte-requires c κs =
+    let l = c .before .before .before .before .before .before .before in
+    let s = l .before .before .before in
+    let d = c .before .before .before .put-decimal in
+    let i = l .loop .i in
+    omega (arith, s .pre, d .ensures .place, d .kept .1 .1 .0, decimal-word (getD (s .args .words .now) i 0) (omega (arith, c .before .before .before .before .before .shared-slice-known2 .given i)))
+
+add-i : tie.Need-add-i Inv-loop μ-loop
+add-i c = omega arith
+
+loop-less : tie.Need-loop-less Inv-loop μ-loop
+loop-less c = omega arith
+
+loop-again : tie.Need-loop-again Inv-loop μ-loop
+loop-again c =
+    let l = c .before .before .before .before .before .before .before .before .before .before in
+    let s = l .before .before .before in
+    let d = c .before .before .before .before .before .before .put-decimal in
+    let n = c .before .before .put-byte in
+    let i = l .loop .i in
+    let words = s .args .words .now in (
+      omega arith,
+      n .kept .1 .1 .0 ∙ d .kept .1 .1 .0 ∙ l .loop .inv .1,
+      omega (arith, d .ensures .place, n .ensures .place, decimal-word (getD words i 0) (omega (arith, c .before .before .before .before .before .before .before .before .shared-slice-known2 .given i))),
+      lined _ _ words _ _ i (omega arith) (l .loop .inv .3) (appended-both (d .ensures) (n .ensures)),
+    )
+
+same-length : tie.Need-same-length Inv-loop μ-loop
+same-length c = omega arith
+
+returns : tie.Need-returns Inv-loop μ-loop
+returns c =
+    let l = c .before in
+    let words = l .before .before .before .args .words .now in
+    let e : l .loop .i ≡ length words = omega arith in
+    (omega arith, l .loop .inv .3 ∙ ap (λ (k : ℕ). lines (take k words)) e ∙ ap lines (take-length words))
+
+pub put-lines-spec : {M : Type 1} → statement M
+put-lines-spec =
+    tie.close
+    (tie.spec
+    Inv-loop
+    μ-loop
+    loop-holds
+    mul-put-decimal
+    shared-slice-read-put-decimal
+    put-decimal-requires
+    put-byte-requires
+    add-i
+    loop-less
+    loop-again
+    same-length
+    returns)

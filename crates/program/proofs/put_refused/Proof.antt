@@ -1,0 +1,50 @@
+use native.Mathlib.Omega.{arith}
+use Rattle.program.specs.Program.{refusedLine}
+use Rattle.program.proofs.Texts.{decimal-byte, appended-both}
+use borrow.Author.Needs.{needs}
+use Rattle.program.proofs.put_refused.Statement.{statement}
+use Rattle.program.proofs.put_refused.Tie as tie
+
+slice-aggregate-put-bytes : tie.Need-slice-aggregate-put-bytes
+slice-aggregate-put-bytes c = search needs
+
+put-bytes-requires : tie.Need-put-bytes-requires
+put-bytes-requires c κs = search needs
+
+put-decimal-requires : tie.Need-put-decimal-requires
+put-decimal-requires c κs =
+    let s = c .before .before .before .before .before .before .before in
+    let w = c .before .before .before .put-bytes in
+    omega (arith, s .pre, w .ensures .place, w .kept .1 .1 .0, decimal-byte (s .args .number) (omega arith))
+
+put-byte-requires : tie.Need-put-byte-requires
+put-byte-requires c κs =
+    let s = c .before .before .before .before .before .before .before .before .before .before .before in
+    let w = c .before .before .before .before .before .before .before .put-bytes in
+    let d = c .before .before .before .put-decimal in
+    omega (arith, s .pre, w .ensures .place, w .kept .1 .1 .0, d .ensures .place, d .kept .1 .1 .0, decimal-byte (s .args .number) (omega arith))
+
+same-length : tie.Need-same-length
+same-length c = search needs
+
+returns : tie.Need-returns
+unfolding refusedLine
+returns c =
+    let s = c .before .before .before .before .before .before .before .before .before .before .before .before .before .before in
+    let w = c .before .before .before .before .before .before .before .before .before .before .put-bytes in
+    let d = c .before .before .before .before .before .before .put-decimal in
+    let n = c .before .before .put-byte in (
+      omega (arith, s .pre, w .kept .1 .1 .0, d .kept .1 .1 .0, n .kept .1 .1 .0, w .ensures .place, d .ensures .place, n .ensures .place, decimal-byte (s .args .number) (omega arith)),
+      appended-both (w .ensures) (appended-both (d .ensures) (n .ensures)) .begins,
+    )
+
+pub put-refused-spec : {M : Type 1} → statement M
+put-refused-spec =
+    tie.close
+    (tie.spec
+    slice-aggregate-put-bytes
+    put-bytes-requires
+    put-decimal-requires
+    put-byte-requires
+    same-length
+    returns)

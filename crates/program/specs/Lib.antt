@@ -1,0 +1,2 @@
+-- The root program.
+pub mod Program

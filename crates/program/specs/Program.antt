@@ -1,0 +1,125 @@
+-- Document 01, "Beside it": the root program, from the bytes of its standard input to those of its standard output.
+use mathlib.Core.Path.{_≡_}
+use mathlib.Core.Bool.{Bool, cond, not, _||_}
+use mathlib.Core.List.{List, [], _∷_, _++_}
+use Prim.Native.Nat.{ℕ, zero, suc, _+_, _*_, _/_, _%_}
+use lib.Dec.{eqb, ltb}
+use lib.ListN.{length, getD, take, drop}
+use Rattle.refusals.specs.Table.{TableRow, row, notWords, Reply, refused, done, reply}
+use Rattle.parameters.specs.declared.ParameterSet.{ParameterSet}
+use Rattle.parameters.specs.declared.Validation.{Validation}
+use Rattle.parameters.specs.ParameterSet.{held, validation}
+use Rattle.parameters.specs.Rows.{constantCount, validationRows}
+use Rattle.merkle.specs.Storeless.{storelessRoot}
+use Rattle.opening_tree.specs.Trees.{treeOf, leafWords, has}
+
+-- "8-byte little-endian numbers": the number of some bytes, the lowest first
+unfoldable pub littleEndian : List ℕ → ℕ
+littleEndian [] = 0
+littleEndian (b ∷ bs) = b + 256 * littleEndian bs
+
+-- the first n numbers of a list of bytes
+unfoldable pub numbersOf : ℕ → List ℕ → List ℕ
+numbersOf zero bytes = []
+numbersOf (suc n) bytes = littleEndian (take 8 bytes) ∷ numbersOf n (drop 8 bytes)
+
+-- "t, l, h, R_F, R_P, D, C, leaves": each list is shorter where the numbers end within it.
+module _ (numbers : List ℕ) where
+  abbrev pub readWidth : ℕ
+  readWidth = getD numbers 0 0
+
+  abbrev pub readNodeSize : ℕ
+  readNodeSize = getD numbers 1 0
+
+  abbrev pub readHeight : ℕ
+  readHeight = getD numbers 2 0
+
+  abbrev pub readFullRounds : ℕ
+  readFullRounds = getD numbers 3 0
+
+  abbrev pub readPartialRounds : ℕ
+  readPartialRounds = getD numbers 4 0
+
+  -- D: the next t numbers, after the five
+  abbrev pub readDiagonal : List ℕ
+  readDiagonal = take readWidth (drop 5 numbers)
+
+  -- C: the next t × R_F + R_P
+  abbrev pub readCount : ℕ
+  readCount = constantCount readWidth readFullRounds readPartialRounds
+
+  abbrev pub readConstants : List ℕ
+  readConstants = take readCount (drop readWidth (drop 5 numbers))
+
+  -- the leaves: the rest
+  abbrev pub readLeaves : List ℕ
+  readLeaves = drop readCount (drop readWidth (drop 5 numbers))
+
+  -- the set of the numbers that were read
+  abbrev pub readSet : ParameterSet
+  readSet = held readWidth readNodeSize readHeight readFullRounds readPartialRounds readDiagonal readConstants
+
+-- What validation answers to the numbers that were read: "An end within D or C gives 6 unless a lower row applies."
+unfoldable pub readValidation : ℕ → List ℕ → Validation
+readValidation p ns =
+    validation p (readWidth ns) (readNodeSize ns) (readHeight ns) (readFullRounds ns) (readPartialRounds ns) (readDiagonal ns) (readConstants ns)
+
+-- The rows of the numbers: those of validation; then 10 and 12 for the leaves.
+unfoldable pub readRows : ℕ → List ℕ → List TableRow
+readRows p ns =
+    validationRows p (readWidth ns) (readNodeSize ns) (readHeight ns) (readFullRounds ns) (readPartialRounds ns) (readDiagonal ns) (readConstants ns)
+    ++ (row 10 (not (has (readLeaves ns) (leafWords p (readSet ns)))) ∷ notWords p (readLeaves ns) ∷ [])
+
+unfoldable pub readRoot : ℕ → List ℕ → List ℕ
+readRoot p ns = storelessRoot (treeOf p (readSet ns)) (readHeight ns) (readLeaves ns)
+
+-- "Under 40 bytes, over 65,536, or not a multiple of 8"
+unfoldable pub badByteCount : ℕ → Bool
+badByteCount n = ltb n 40 || ltb 65536 n || not (eqb (n % 8) 0)
+
+-- The program's reply: the byte count "gives 10, tested before every other row".
+unfoldable pub programReply : ℕ → List ℕ → Reply
+programReply p bytes =
+    let ns = numbersOf (length bytes / 8) bytes in
+    reply (row 10 (badByteCount (length bytes)) ∷ readRows p ns) (readRoot p ns)
+
+-- A number "in decimal", as ASCII: the last digit follows the text of the others. It has at most as many digits as the first number says.
+unfoldable pub digits : ℕ → ℕ → List ℕ
+digits zero n = []
+digits (suc most) n = cond (ltb n 10) ((48 + n) ∷ []) (digits most (n / 10) ++ ((48 + n % 10) ∷ []))
+
+-- n has no more digits than n + 1
+unfoldable pub decimal : ℕ → List ℕ
+decimal n = digits (suc n) n
+
+abbrev pub newline : ℕ
+newline = 10
+
+-- "the root's words in decimal, one a line"
+unfoldable pub lines : List ℕ → List ℕ
+lines [] = []
+lines (w ∷ ws) = decimal w ++ (newline ∷ lines ws)
+
+-- "`refused ` and the number, then a newline"
+abbrev pub refusedWord : List ℕ
+refusedWord = 114 ∷ 101 ∷ 102 ∷ 117 ∷ 115 ∷ 101 ∷ 100 ∷ 32 ∷ []
+
+unfoldable pub refusedLine : ℕ → List ℕ
+refusedLine n = refusedWord ++ (decimal n ++ (newline ∷ []))
+
+unfoldable pub replyText : Reply → List ℕ
+replyText (refused n) = refusedLine n
+replyText (done words) = lines words
+
+-- The program's standard output for its standard input.
+unfoldable pub rootText : ℕ → List ℕ → List ℕ
+rootText p bytes = replyText (programReply p bytes)
+
+-- "Empty input prints `refused 10` and a newline."
+abbrev pub EmptyInput : Type 0
+EmptyInput = (p : ℕ) → rootText p [] ≡ refusedWord ++ (49 ∷ 48 ∷ newline ∷ [])
+
+-- Text that is written into the output from a place on: the place after it, and what the output then begins with.
+pub record Appended (before : List ℕ) (at : ℕ) (text : List ℕ) (end : ℕ) (after : List ℕ) : Type 0 where
+  pub place : end ≡ at + length text
+  pub begins : take end after ≡ take at before ++ text

@@ -1,0 +1,236 @@
+// The root program, from the bytes that it reads to those that it writes.
+ghost use mathlib.Core.Path.{_≡_};
+ghost use mathlib.Core.List.{_∷_, []};
+ghost use Prim.Native.Nat.{_+_, _/_, _≤_, _<_, min};
+ghost use lib.ListN.{length, take, drop, getD};
+ghost use Rattle.modular.specs.Goldilocks.{p};
+ghost use Rattle.refusals.specs.Table.{reply};
+ghost use Rattle.parameters.specs.Rows.{constantCount};
+ghost use Rattle.program.specs.Program.{littleEndian, numbersOf, readWidth, readCount, readLeaves, readValidation, readRows, readRoot, decimal, lines, refusedLine, replyText, rootText, Appended};
+use opening_tree::Outcome;
+use parameters::Validation;
+
+fn wide(byte: u8) -> u64
+    ensures { λ r. ⌜ (r ≡ byte) × (r < 256) ⌝ }
+{
+    byte as u64
+}
+
+// The number of the first 8 bytes.
+fn number_of(bytes: &[u8]) -> u64
+    requires { ⌜ 8 ≤ length (now bytes) ⌝ }
+    ensures { λ r. ⌜ r ≡ littleEndian (take 8 (now (bytes .entry))) ⌝ }
+{
+    let b0 = wide(bytes[0]);
+    let b1 = wide(bytes[1]);
+    let b2 = wide(bytes[2]);
+    let b3 = wide(bytes[3]);
+    let b4 = wide(bytes[4]);
+    let b5 = wide(bytes[5]);
+    let b6 = wide(bytes[6]);
+    let b7 = wide(bytes[7]);
+    b0 + 256 * (b1 + 256 * (b2 + 256 * (b3 + 256 * (b4 + 256 * (b5 + 256 * (b6 + 256 * b7))))))
+}
+
+// The numbers of the bytes, and how many they are.
+fn decode(bytes: &[u8], numbers: &mut [u64]) -> usize
+    requires { ⌜ length (now bytes) / 8 ≤ length (now numbers) ⌝ }
+    ensures { λ r. ⌜ (r ≡ length (now (bytes .entry)) / 8) × (take r (now (numbers .exit)) ≡ numbersOf r (now (bytes .entry))) ⌝ }
+{
+    let count = bytes.len() / 8;
+    let mut i = 0;
+    while i < count {
+        let at = 8 * i;
+        numbers[i] = number_of(&bytes[at..]);
+        i += 1;
+    }
+    count
+}
+
+// The number at a place, or 0 beyond the last.
+fn number_at(numbers: &[u64], i: usize) -> u64
+    ensures { λ r. ⌜ r ≡ getD (now (numbers .entry)) i 0 ⌝ }
+{
+    if i < numbers.len() {
+        return numbers[i];
+    }
+    0
+}
+
+// The first n numbers, or all of them.
+fn first(numbers: &[u64], n: u64) -> &[u64]
+    ensures { λ r. ⌜ now r ≡ take n (now (numbers .entry)) ⌝ }
+{
+    if n < numbers.len() as u64 {
+        let end = n as usize;
+        return &numbers[..end];
+    }
+    numbers
+}
+
+// The numbers after the first n, or none.
+fn beyond(numbers: &[u64], n: u64) -> &[u64]
+    ensures { λ r. ⌜ now r ≡ drop n (now (numbers .entry)) ⌝ }
+{
+    if n < numbers.len() as u64 {
+        let start = n as usize;
+        return &numbers[start..];
+    }
+    let end = numbers.len();
+    &numbers[end..]
+}
+
+// t * R_F + R_P, or the most that is asked for where that is less: nothing wraps.
+fn constant_count(width: u64, full_rounds: u64, partial_rounds: u64, most: u64) -> u64
+    ensures { λ r. ⌜ r ≡ min (constantCount width «full_rounds» «partial_rounds») most ⌝ }
+{
+    if most < partial_rounds {
+        return most;
+    }
+    if full_rounds == 0 {
+        return partial_rounds;
+    }
+    if (most - partial_rounds) / full_rounds < width {
+        return most;
+    }
+    width * full_rounds + partial_rounds
+}
+
+fn put_byte(byte: u8, at: usize, output: &mut [u8]) -> usize
+    requires { ⌜ at < length (now output) ⌝ }
+    ensures { λ r. ⌜ Appended (now (output .entry)) at (byte ∷ []) r (now (output .exit)) ⌝ }
+{
+    output[at] = byte;
+    at + 1
+}
+
+fn put_bytes(bytes: &[u8], at: usize, output: &mut [u8]) -> usize
+    requires { ⌜ at + length (now bytes) ≤ length (now output) ⌝ }
+    ensures { λ r. ⌜ Appended (now (output .entry)) at (now (bytes .entry)) r (now (output .exit)) ⌝ }
+{
+    let mut i = 0;
+    while i < bytes.len() {
+        output[at + i] = bytes[i];
+        i += 1;
+    }
+    at + i
+}
+
+// A number in decimal: the digits before the last, and the last.
+fn put_decimal(n: u64, at: usize, output: &mut [u8]) -> usize
+    requires { ⌜ at + length (decimal n) ≤ length (now output) ⌝ }
+    ensures { λ r. ⌜ Appended (now (output .entry)) at (decimal n) r (now (output .exit)) ⌝ }
+{
+    if n < 10 {
+        return put_byte(48 + n as u8, at, output);
+    }
+    let last = put_decimal(n / 10, at, output);
+    put_byte(48 + (n % 10) as u8, last, output)
+}
+
+// The words in decimal, one a line.
+fn put_lines(words: &[u64], output: &mut [u8]) -> usize
+    requires { ⌜ (length (now words) ≤ 6) × (length (now output) ≡ 128) ⌝ }
+    ensures { λ r. ⌜ (r ≤ length (now (output .exit))) × (take r (now (output .exit)) ≡ lines (now (words .entry))) ⌝ }
+{
+    let mut at = 0;
+    let mut i = 0;
+    while i < words.len() {
+        let end = put_decimal(words[i], at, output);
+        at = put_byte(b'\n', end, output);
+        i += 1;
+    }
+    at
+}
+
+fn put_refused(number: u8, output: &mut [u8]) -> usize
+    requires { ⌜ length (now output) ≡ 128 ⌝ }
+    ensures { λ r. ⌜ (r ≤ length (now (output .exit))) × (take r (now (output .exit)) ≡ refusedLine number) ⌝ }
+{
+    let at = put_bytes(b"refused ", 0, output);
+    let end = put_decimal(number as u64, at, output);
+    put_byte(b'\n', end, output)
+}
+
+// What follows D.
+fn after_diagonal(numbers: &[u64]) -> &[u64]
+    ensures { λ r. ⌜ now r ≡ drop (readWidth (now (numbers .entry))) (drop 5 (now (numbers .entry))) ⌝ }
+{
+    let lists = beyond(numbers, 5);
+    beyond(lists, number_at(numbers, 0))
+}
+
+// How many of the numbers after D are C's.
+fn constants_read(numbers: &[u64]) -> u64
+    ensures { λ r. ⌜ r ≡ min (readCount (now (numbers .entry))) (length (drop (readWidth (now (numbers .entry))) (drop 5 (now (numbers .entry))))) ⌝ }
+{
+    let rest = after_diagonal(numbers);
+    constant_count(
+        number_at(numbers, 0),
+        number_at(numbers, 3),
+        number_at(numbers, 4),
+        rest.len() as u64,
+    )
+}
+
+fn leaves_read(numbers: &[u64]) -> &[u64]
+    ensures { λ r. ⌜ now r ≡ readLeaves (now (numbers .entry)) ⌝ }
+{
+    let rest = after_diagonal(numbers);
+    beyond(rest, constants_read(numbers))
+}
+
+// The set of the numbers, or the row that turns it down.
+fn set_read(numbers: &[u64]) -> Validation
+    ensures { λ r. ⌜ r ≡ readValidation p (now (numbers .entry)) ⌝ }
+{
+    let width = number_at(numbers, 0);
+    let lists = beyond(numbers, 5);
+    let rest = after_diagonal(numbers);
+    opening_tree::validate(
+        width,
+        number_at(numbers, 1),
+        number_at(numbers, 2),
+        number_at(numbers, 3),
+        number_at(numbers, 4),
+        first(lists, width),
+        first(rest, constants_read(numbers)),
+    )
+}
+
+// The text for the numbers t, l, h, R_F, R_P, D, C, leaves.
+fn text_of(numbers: &[u64], output: &mut [u8]) -> usize
+    requires { ⌜ length (now output) ≡ 128 ⌝ }
+    ensures { λ r. ⌜ (r ≤ length (now (output .exit))) × (take r (now (output .exit)) ≡ replyText (reply (readRows p (now (numbers .entry))) (readRoot p (now (numbers .entry))))) ⌝ }
+{
+    let validated = set_read(numbers);
+    if validated.number != 0 {
+        return put_refused(validated.number, output);
+    }
+    let set = validated.parameters;
+    let size = set.node_size as usize;
+    let mut places = [0u64; 6];
+    let node = &mut places[..size];
+    match opening_tree::storeless_root(set, leaves_read(numbers), node) {
+        Outcome::Done => put_lines(node, output),
+        Outcome::Refused(number) => put_refused(number, output),
+    }
+}
+
+// The text of the root program for its input: how many bytes of the output it is.
+pub fn root_text(input: &[u8], output: &mut [u8; 128]) -> usize
+    ensures { λ r. ⌜ (r ≤ length (now (output .exit))) × (take r (now (output .exit)) ≡ rootText p (now (input .entry))) ⌝ }
+{
+    if input.len() < 40 {
+        return put_refused(10, output);
+    }
+    if 65536 < input.len() {
+        return put_refused(10, output);
+    }
+    if input.len() % 8 != 0 {
+        return put_refused(10, output);
+    }
+    let mut numbers = [0u64; 8192];
+    let count = decode(input, &mut numbers);
+    text_of(&numbers[..count], output)
+}
