@@ -1,10 +1,15 @@
-# make run: proves and builds what the main program needs, and runs it on document 01's worked field cases.
+# make run: proves and builds the root program, and runs it on document 01's case: it prints 6 and 4.
 # make test: the gate.
-.PHONY: run test
+# make bench: the benchmarks, beside Rust (needs rustc).
+.PHONY: run test bench
 
 run:
-	rt check vectors
-	target/bin/vectors < crates/vectors/stdin | sed -n '2,10p'
+	rt check root
+	target/bin/root < crates/root/stdin
 
 test:
 	bash .ci/run
+
+bench:
+	bench/run.sh permutation
+	bench/run.sh tree
