@@ -15,6 +15,7 @@ import merkle
 import poseidon2
 import program
 import published
+import vectors
 from field import P
 from parameters import (
     ParameterSet,
@@ -341,6 +342,11 @@ def vectors_cases() -> Iterator[Check]:
         state = case.state.numbers(cases.STATE_PLACES)
         kind, answer = poseidon2.permute(case.handed(), state)
         yield f"permute {case}", 0 if kind == "words" else answer, case.row
+    for what, case in cases.trees_cases():
+        if what == cases.CALLS:
+            called, (_, row) = vectors.calls_of(case)
+            rows = [row or 0 for row in [*(one for one, _ in called), row]]
+            yield f"calls {case}", rows, case.rows
     # The program's buffer has 65,536 bytes.
     size = sum(len(line) + 1 for line in cases.lines())
     yield "bytes of input", size <= 60000, True

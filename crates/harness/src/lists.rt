@@ -26,7 +26,7 @@ pub fn clamped(count: u64, places: usize) -> usize
 }
 
 // Drawn words, and another number in the places beyond them.
-fn draw(list: &mut [u64], count: usize, seed: u64, beyond: u64) {
+pub fn draw(list: &mut [u64], count: usize, seed: u64, beyond: u64) {
     let mut x = generator::start(seed);
     for i in 0..list.len() {
         x = generator::next(x);
@@ -35,7 +35,7 @@ fn draw(list: &mut [u64], count: usize, seed: u64, beyond: u64) {
 }
 
 // A value at a place, if the list has it.
-fn put(list: &mut [u64], place: u64, value: u64) {
+pub fn put(list: &mut [u64], place: u64, value: u64) {
     if place < list.len() as u64 {
         list[place as usize] = value;
     }
@@ -82,6 +82,29 @@ pub fn part(list: &[u64], count: usize) -> &[u64] {
         return &list[..count];
     }
     list
+}
+
+// What follows the first numbers of a buffer.
+pub fn rest(list: &[u64], count: usize) -> &[u64] {
+    if count <= list.len() {
+        return &list[count..];
+    }
+    &list[..0]
+}
+
+// The numbers of another list, from a place on, where the list has such places.
+pub fn write(list: &mut [u64], place: u64, other: &[u64]) {
+    for i in 0..other.len() {
+        put(list, wrapping_add_u64(place, i as u64), other[i]);
+    }
+}
+
+// The word after the one at a place, there.
+pub fn damage(list: &mut [u64], place: usize) {
+    if place < list.len() {
+        let word = list[place];
+        list[place] = wrapping_add_u64(word, 1) % P;
+    }
 }
 
 // The digest goes on over a list: 31 d + x modulo 2^64, for each number x.

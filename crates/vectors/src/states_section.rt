@@ -10,9 +10,9 @@ use parameters::ParameterSet;
 // How much of a buffer is printed after a call.
 const NOTHING: u64 = 0;
 
-const IN_FULL: u64 = 1;
+pub const IN_FULL: u64 = 1;
 
-const DIGEST: u64 = 2;
+pub const DIGEST: u64 = 2;
 
 // The entries that work in place.
 const PERMUTE: u64 = 0;
@@ -20,13 +20,13 @@ const PERMUTE: u64 = 0;
 const UNPERMUTE: u64 = 1;
 
 // A line's set, and where the number after it begins.
-struct HandedSet {
-    set: ParameterSet,
-    next: usize,
+pub struct HandedSet {
+    pub set: ParameterSet,
+    pub next: usize,
 }
 
 // The number in the places beyond the used ones, D and C.
-fn read_set(input: &[u8], numbers: Numbers) -> HandedSet {
+pub fn read_set(input: &[u8], numbers: Numbers) -> HandedSet {
     let beyond = input::number(input, numbers.next);
     let mut diagonal = [0u64; 12];
     let mut constants = [0u64; 208];
@@ -67,7 +67,7 @@ fn print_buffer(manner: u64, buffer: &[u64]) {
 }
 
 // The answer of an entry, and the buffer that it was to write to.
-fn print(manner: u64, outcome: Outcome, before: &[u64], after: &[u64]) {
+pub fn print(manner: u64, outcome: Outcome, before: &[u64], after: &[u64]) {
     if manner == NOTHING {
         return;
     }

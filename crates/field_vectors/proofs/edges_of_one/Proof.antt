@@ -1,13 +1,13 @@
 use Prim.Native.Nat.{_≤_, _-_}
 use borrow.Author.Needs.{needs}
-use Rattle.vectors.proofs.field_section.edges_after.Statement.{statement}
-use Rattle.vectors.proofs.field_section.edges_after.Tie as tie
+use Rattle.field_vectors.proofs.edges_of_one.Statement.{statement}
+use Rattle.field_vectors.proofs.edges_of_one.Tie as tie
 
 abbrev Inv-loop : tie.InvT-loop
-Inv-loop entry a j₀ j = j ≤ 8
+Inv-loop entry i₀ i = i ≤ 8
 
 abbrev μ-loop : tie.MeasureT-loop
-μ-loop entry a j₀ j = 8 - j
+μ-loop entry i₀ i = 8 - i
 
 loop-holds : tie.Need-loop-holds Inv-loop μ-loop
 loop-holds c = search needs
@@ -21,8 +21,8 @@ array-read-case-line c = search needs
 case-line-requires : tie.Need-case-line-requires Inv-loop μ-loop
 case-line-requires c κs = search needs
 
-add-j : tie.Need-add-j Inv-loop μ-loop
-add-j c = search needs
+add-i : tie.Need-add-i Inv-loop μ-loop
+add-i c = search needs
 
 loop-less : tie.Need-loop-less Inv-loop μ-loop
 loop-less c = search needs
@@ -33,8 +33,8 @@ loop-again c = search needs
 returns : tie.Need-returns Inv-loop μ-loop
 returns c = search needs
 
-pub edges-after-spec : {M : Type 1} → statement M
-edges-after-spec =
+pub edges-of-one-spec : {M : Type 1} → statement M
+edges-of-one-spec =
     tie.close
     (tie.spec
     Inv-loop
@@ -43,7 +43,7 @@ edges-after-spec =
     mul-case-line
     array-read-case-line
     case-line-requires
-    add-j
+    add-i
     loop-less
     loop-again
     returns)

@@ -1,7 +1,7 @@
 use Prim.Native.Nat.{_≤_, _-_}
 use borrow.Author.Needs.{needs}
-use Rattle.vectors.proofs.field_section.print.Statement.{statement}
-use Rattle.vectors.proofs.field_section.print.Tie as tie
+use Rattle.field_vectors.proofs.print.Statement.{statement}
+use Rattle.field_vectors.proofs.print.Tie as tie
 
 abbrev Inv-loop : tie.InvT-loop
 Inv-loop e₀ e = e ≤ 4

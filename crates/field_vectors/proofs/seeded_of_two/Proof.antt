@@ -1,7 +1,7 @@
 use Prim.Native.Nat.{_≤_, _-_}
 use borrow.Author.Needs.{needs}
-use Rattle.vectors.proofs.field_section.seeded_of_one.Statement.{statement}
-use Rattle.vectors.proofs.field_section.seeded_of_one.Tie as tie
+use Rattle.field_vectors.proofs.seeded_of_two.Statement.{statement}
+use Rattle.field_vectors.proofs.seeded_of_two.Tie as tie
 
 abbrev Inv-loop : tie.InvT-loop
 Inv-loop entry x₀ counter₀ x counter = counter ≤ 2000
@@ -18,11 +18,23 @@ loop-holds c = search needs
 next-requires : tie.Need-next-requires Inv-loop μ-loop
 next-requires c κs = search needs
 
+next-requires-2 : tie.Need-next-requires-2 Inv-loop μ-loop
+next-requires-2 c κs = search needs
+
 operand-requires : tie.Need-operand-requires Inv-loop μ-loop
 operand-requires c κs = search needs
 
 answer-line-requires : tie.Need-answer-line-requires Inv-loop μ-loop
 answer-line-requires c κs = search needs
+
+operand-requires-2 : tie.Need-operand-requires-2 Inv-loop μ-loop
+operand-requires-2 c κs = search needs
+
+operand-requires-3 : tie.Need-operand-requires-3 Inv-loop μ-loop
+operand-requires-3 c κs = search needs
+
+answer-line-requires-2 : tie.Need-answer-line-requires-2 Inv-loop μ-loop
+answer-line-requires-2 c κs = search needs
 
 add-counter : tie.Need-add-counter Inv-loop μ-loop
 add-counter c = search needs
@@ -36,8 +48,8 @@ loop-again c = search needs
 returns : tie.Need-returns Inv-loop μ-loop
 returns c = search needs
 
-pub seeded-of-one-spec : {M : Type 1} → statement M
-seeded-of-one-spec =
+pub seeded-of-two-spec : {M : Type 1} → statement M
+seeded-of-two-spec =
     tie.close
     (tie.spec
     Inv-loop
@@ -45,8 +57,12 @@ seeded-of-one-spec =
     start-requires
     loop-holds
     next-requires
+    next-requires-2
     operand-requires
     answer-line-requires
+    operand-requires-2
+    operand-requires-3
+    answer-line-requires-2
     add-counter
     loop-less
     loop-again

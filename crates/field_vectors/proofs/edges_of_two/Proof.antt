@@ -1,7 +1,7 @@
 use Prim.Native.Nat.{_≤_, _-_}
 use borrow.Author.Needs.{needs}
-use Rattle.vectors.proofs.field_section.edges_of_two.Statement.{statement}
-use Rattle.vectors.proofs.field_section.edges_of_two.Tie as tie
+use Rattle.field_vectors.proofs.edges_of_two.Statement.{statement}
+use Rattle.field_vectors.proofs.edges_of_two.Tie as tie
 
 abbrev Inv-loop : tie.InvT-loop
 Inv-loop entry i₀ i = i ≤ 8
