@@ -1,8 +1,2 @@
--- The proofs of the claims in specs/, and the laws that the entries' proofs cite.
+-- The proofs of the claims in specs/.
 pub mod Worked
-mod Operands
-mod AcceptedSets
-mod LengthsAndWords
-mod LengthsPlacesAndWords
-mod AcceptedStates
-mod AcceptedTrees

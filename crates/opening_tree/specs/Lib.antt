@@ -1,5 +1,2 @@
--- What each entry replies, and document 01's worked cases.
-pub mod Arithmetic
-pub mod Permutation
-pub mod Trees
+-- Document 01's worked cases.
 pub mod Worked

@@ -19,10 +19,10 @@ use Rattle.parameters.specs.ParameterSet.{held, padded, refusal, validation, he
 use Rattle.parameters.specs.Rows.{constantCount, numberRows, listRows, badLengths, validationRows}
 use Rattle.parameters.proofs.Accepted.{numbers-of, numbers-numbered, lists-numbered, set-numbered, width-fits}
 use Rattle.merkle.specs.Storeless.{storelessRoot}
-use Rattle.opening_tree.specs.declared.outcome.Outcome.{Outcome}
-use Rattle.opening_tree.specs.declared.outcome.Outcome.the-variants.{Done, Refused}
-use Rattle.opening_tree.specs.Permutation.{outcomeReply}
-use Rattle.opening_tree.specs.Trees.{treeOf, leafWords, has, storelessRows, storelessReply, storelessRooted}
+use Rattle.state_entries.specs.declared.outcome.Outcome.{Outcome}
+use Rattle.state_entries.specs.declared.outcome.Outcome.the-variants.{Done, Refused}
+use Rattle.state_entries.specs.Permutation.{outcomeReply}
+use Rattle.tree_entries.specs.Trees.{treeOf, leafWords, has, storelessRows, storelessReply, storelessRooted}
 use Rattle.program.specs.Program.{readWidth, readNodeSize, readHeight, readFullRounds, readPartialRounds, readDiagonal, readConstants, readLeaves, readSet, readValidation, readRows, readRoot, badByteCount, programReply, numbersOf, lines, refusedLine, replyText, rootText, decimal, digits, EmptyInput}
 
 -- Rows that do not apply leave the reply to those after them.

@@ -1,0 +1,38 @@
+use mathlib.Core.Path.{sym, ap, _∙_}
+use mathlib.Core.List.{[], _∷_}
+use Prim.Native.Nat.{ℕ}
+use native.Mathlib.Omega.{arith}
+use borrow.Author.Needs.{needs}
+use Rattle.modular.specs.Arithmetic.{add}
+use Rattle.modular.specs.Goldilocks.{p}
+use Rattle.refusals.specs.Table.{done}
+use Rattle.refusals.proofs.Table.{all-passed}
+use Rattle.field_entries.specs.Arithmetic.{replyOf, sumReply}
+use Rattle.field_entries.proofs.Operands.{first-refused, second-refused, both-passed}
+use Rattle.field_entries.proofs.sum.Statement.{statement}
+use Rattle.field_entries.proofs.sum.Tie as tie
+
+returns : tie.Need-returns
+unfolding replyOf sumReply
+returns c =
+    let a = c .before .args in
+    sym (first-refused p (a .a) (a .b) [] (add p (a .a) (a .b) ∷ []) (c .if1 .taken))
+
+returns-2 : tie.Need-returns-2
+unfolding replyOf sumReply
+returns-2 c =
+    let a = c .before .before .args in
+    sym (second-refused p (a .a) (a .b) [] (add p (a .a) (a .b) ∷ []) (omega arith) (c .if2 .taken))
+
+sum-requires : tie.Need-sum-requires
+sum-requires c κs = search needs
+
+returns-3 : tie.Need-returns-3
+unfolding replyOf sumReply
+returns-3 c =
+    let a = c .before .before .before .args in
+    ap (λ (x : ℕ). done (x ∷ [])) (c .sum .ensures)
+    ∙ sym (both-passed p (a .a) (a .b) [] (add p (a .a) (a .b) ∷ []) (omega arith) (omega arith) ∙ all-passed (add p (a .a) (a .b) ∷ []))
+
+pub sum-spec : {M : Type 1} → statement M
+sum-spec = tie.close (tie.spec returns returns-2 sum-requires returns-3)

@@ -1,0 +1,33 @@
+-- What the field's entries reply, for any numbers.
+use mathlib.Core.List.{List, [], _∷_}
+use Prim.Native.Nat.{ℕ, suc, _%_}
+use lib.Dec.{eqb}
+use Rattle.modular.specs.Arithmetic.{add, sub, mul, pow, inverse, seventhRoot}
+use Rattle.refusals.specs.Table.{Reply, refused, done, reply, row, notWords}
+use Rattle.field_entries.specs.declared.Answer.{Answer}
+use Rattle.field_entries.specs.declared.Answer.the-variants.{Word, Refused}
+
+-- The number and the values of each case of the answer.
+unfoldable pub replyOf : Answer → Reply
+replyOf (Word w) = done (w ∷ [])
+replyOf (Refused n) = refused n
+
+unfoldable pub sumReply : ℕ → ℕ → ℕ → Reply
+sumReply p a b = reply (notWords p (a ∷ b ∷ []) ∷ []) (add p a b ∷ [])
+
+unfoldable pub differenceReply : ℕ → ℕ → ℕ → Reply
+differenceReply p a b = reply (notWords p (a ∷ b ∷ []) ∷ []) (sub p a b ∷ [])
+
+unfoldable pub productReply : ℕ → ℕ → ℕ → Reply
+productReply p a b = reply (notWords p (a ∷ b ∷ []) ∷ []) (mul p a b ∷ [])
+
+-- "a power's exponent is free"
+unfoldable pub powerReply : ℕ → ℕ → ℕ → Reply
+powerReply p a e = reply (notWords p (a ∷ []) ∷ []) (pow p a e ∷ [])
+
+-- "13 | inverse of 0"
+unfoldable pub inverseReply : ℕ → ℕ → Reply
+inverseReply p x = reply (notWords p (x ∷ []) ∷ row 13 (eqb x 0) ∷ []) (inverse p x ∷ [])
+
+unfoldable pub seventhRootReply : ℕ → ℕ → Reply
+seventhRootReply p y = reply (notWords p (y ∷ []) ∷ []) (seventhRoot p y ∷ [])

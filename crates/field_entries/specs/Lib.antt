@@ -1,0 +1,2 @@
+-- What each entry of the field replies.
+pub mod Arithmetic

@@ -1,0 +1,3 @@
+-- What passes where no row applies.
+pub mod AcceptedSets
+mod AcceptedStates

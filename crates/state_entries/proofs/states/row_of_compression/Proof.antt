@@ -1,0 +1,59 @@
+use mathlib.Core.Path.{_≡_, sym, ap, ap₂, _∙_}
+use mathlib.Core.Bool.{Bool, not, _&&_, true, false}
+use borrow.Author.Needs.{needs}
+use borrow.Author.Tests.{eq-eqb, ne-eqb, not-true, not-false}
+use Rattle.modular.specs.Goldilocks.{p}
+use Rattle.refusals.proofs.Table.{first-front}
+use Rattle.parameters.proofs.Accepted.{set-numbered}
+use Rattle.state_entries.specs.Permutation.{compressRows}
+use Rattle.refusals.proofs.LengthsAndWords.{at-10, at-12, at-none, first-bad, second-bad, both-good}
+use Rattle.state_entries.proofs.states.row_of_compression.Statement.{statement}
+use Rattle.state_entries.proofs.states.row_of_compression.Tie as tie
+
+row-of-requires : tie.Need-row-of-requires
+row-of-requires c κs = search needs
+
+returns : tie.Need-returns
+unfolding compressRows
+returns c =
+    let e = c .before .row-of .ensures in
+    e ∙ sym (first-front _ _ (λ z. c .if1 .taken (e ∙ z)))
+
+returns-2 : tie.Need-returns-2
+unfolding compressRows
+returns-2 c =
+    let r = c .before .before in
+    sym (at-10 p _ (set-numbered p _) _ _ (sym (r .before .row-of .ensures) ∙ r .if1 .left) (first-bad _ _ (ne-eqb _ _ (c .if2 .taken))))
+
+returns-3 : tie.Need-returns-3
+unfolding compressRows
+returns-3 c =
+    let l = c .before .before in
+    let r = l .before .before in
+    sym (at-10 p _ (set-numbered p _) _ _ (sym (r .before .row-of .ensures) ∙ r .if1 .left) (second-bad _ _ (eq-eqb _ _ (l .if2 .left)) (ne-eqb _ _ (c .if3 .taken))))
+
+all-words-requires : tie.Need-all-words-requires
+all-words-requires c κs = search needs
+
+returns-4 : tie.Need-returns-4
+unfolding compressRows
+returns-4 c =
+    let n = c .before .before in
+    let l = n .before .before in
+    let r = l .before .before in
+    sym (at-12 p _ (set-numbered p _) _ _ (sym (r .before .row-of .ensures) ∙ r .if1 .left) (both-good _ _ (eq-eqb _ _ (l .if2 .left)) (eq-eqb _ _ (n .if3 .left)))
+    (sym (c .before .all-words .ensures) ∙ not-true _ (c .if4 .taken)))
+
+returns-5 : tie.Need-returns-5
+unfolding compressRows
+returns-5 c =
+    let n = c .before .before in
+    let l = n .before .before in
+    let r = l .before .before in
+    sym (at-none p _ (set-numbered p _) _ _ (sym (r .before .row-of .ensures) ∙ r .if1 .left) (both-good _ _ (eq-eqb _ _ (l .if2 .left)) (eq-eqb _ _ (n .if3 .left)))
+    (sym (c .before .all-words .ensures) ∙ not-false _ (c .if4 .left)))
+
+pub row-of-compression-spec : {M : Type 1} → statement M
+row-of-compression-spec =
+    tie.close
+    (tie.spec row-of-requires returns returns-2 returns-3 all-words-requires returns-4 returns-5)

@@ -1,0 +1,2 @@
+-- What each entry of the permutation replies and leaves.
+pub mod Permutation

@@ -1,0 +1,2 @@
+-- What passes where no row applies.
+pub mod AcceptedTrees

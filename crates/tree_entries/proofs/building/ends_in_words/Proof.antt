@@ -1,0 +1,55 @@
+use mathlib.Core.Path.{ap, _∙_}
+use Prim.Native.Nat.{_-_}
+use native.Mathlib.Omega.{arith}
+use lib.ListN.{length, drop, length-drop}
+use lib.Seq.{take-all}
+use Rattle.modular.specs.Arithmetic.{allWords}
+use Rattle.modular.specs.Goldilocks.{p}
+use borrow.Author.Needs.{needs}
+use Rattle.tree_entries.proofs.building.ends_in_words.Statement.{statement}
+use Rattle.tree_entries.proofs.building.ends_in_words.Tie as tie
+use Rattle.tree_entries.proofs.building.ends_in_words.Reads as reads
+use Rattle.tree_entries.proofs.building.ends_in_words.Lts as lts
+use Rattle.parameters.proofs.all_words.Reads as all-words-reads
+
+-- src/tree.rt:114:14
+sub-at : tie.Need-sub-at
+sub-at c = search needs
+
+-- src/tree.rt:115:27
+mul-all-words : tie.Need-mul-all-words
+mul-all-words c = search needs
+
+-- src/tree.rt:115:27
+sub-all-words : tie.Need-sub-all-words
+sub-all-words c = search needs
+
+-- src/tree.rt:115:27
+part-all-words-start : tie.Need-part-all-words-start
+part-all-words-start c = search needs
+
+-- src/tree.rt:115:27
+part-all-words-end : tie.Need-part-all-words-end
+part-all-words-end c = search needs
+
+-- src/tree.rt:115:5
+all-words-requires : tie.Need-all-words-requires
+all-words-requires c κs = search needs
+
+-- src/tree.rt:110:1
+returns : tie.Need-returns
+returns c =
+    let a = c .before .before .before .args in
+    c .all-words .ensures ∙ ap (allWords p) (take-all (length (a .store .now) - (length (a .store .now) - a .count)) (drop (length (a .store .now) - a .count) (a .store .now)) (simp length-drop (omega arith)))
+
+pub ends-in-words-spec : {M : Type 1} → statement M
+ends-in-words-spec =
+    tie.close
+    (tie.spec
+    sub-at
+    mul-all-words
+    sub-all-words
+    part-all-words-start
+    part-all-words-end
+    all-words-requires
+    returns)

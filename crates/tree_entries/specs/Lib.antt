@@ -1,0 +1,2 @@
+-- What each entry of the tree replies and leaves.
+pub mod Trees

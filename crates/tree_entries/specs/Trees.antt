@@ -1,0 +1,118 @@
+-- What the entries of the tree reply and leave, for any set, numbers and buffers.
+use mathlib.Core.Bool.{Bool, true, false, not, cond, _&&_}
+use mathlib.Core.List.{List, [], _∷_, _++_}
+use Prim.Native.Nat.{ℕ, _*_, _-_, _/_, _^_}
+use lib.Dec.{eqb, ltb}
+use lib.ListN.{length}
+use Rattle.refusals.specs.Table.{TableRow, row, notWords, Reply, refused, done, reply, after}
+use Rattle.parameters.specs.declared.ParameterSet.{ParameterSet}
+use Rattle.parameters.specs.ParameterSet.{setRows}
+use Rattle.merkle.specs.Levels.{Shape, build, size, root}
+use Rattle.merkle.specs.Storeless.{storelessRoot}
+use Rattle.merkle.specs.Openings.{opening, accepts}
+use Rattle.trees.specs.Shapes.{shape}
+use Rattle.trees.specs.declared.Dimensions.{Dimensions}
+use Rattle.tree_entries.specs.declared.verdict.Verdict.{Verdict}
+use Rattle.tree_entries.specs.declared.verdict.Verdict.the-variants.{Accepted, Rejected, Refused}
+
+-- The tree of a set: arity k = t / l, its rows compressed under the set.
+abbrev pub treeOf : ℕ → ParameterSet → Shape
+treeOf p s = shape p (s .width) (s .«node_size») (s .«full_rounds» / 2) (s .«partial_rounds») (s .diagonal) (s .constants)
+
+-- The set's numbers as the tree's work uses them.
+abbrev pub dimensionsOf : ParameterSet → Dimensions
+dimensionsOf s = record {
+  arity = s .width / s .«node_size»;
+  «node_size» = s .«node_size»;
+  height = s .height;
+  half = s .«full_rounds» / 2;
+  «partial_rounds» = s .«partial_rounds»;
+}
+
+-- k^h leaves, and the words of the leaves, the store and an opening
+abbrev pub leafCount : ℕ → ParameterSet → ℕ
+leafCount p s = treeOf p s .arity ^ s .height
+
+abbrev pub leafWords : ℕ → ParameterSet → ℕ
+leafWords p s = leafCount p s * s .«node_size»
+
+abbrev pub storeWords : ℕ → ParameterSet → ℕ
+storeWords p s = size (treeOf p s) (s .height)
+
+abbrev pub openingWords : ℕ → ParameterSet → ℕ
+openingWords p s = s .height * ((treeOf p s .arity - 1) * s .«node_size»)
+
+-- "10 | another lent slice not of its exact length"
+abbrev pub has : List ℕ → ℕ → Bool
+has xs n = eqb (length xs) n
+
+-- "11 | a place not below k^h"
+abbrev pub noPlace : ℕ → ParameterSet → ℕ → TableRow
+noPlace p s q = row 11 (not (ltb q (leafCount p s)))
+
+-- Building "takes a lent list of the k^h leaves and a lent store and writes the whole store".
+unfoldable pub buildRows : ℕ → ParameterSet → List ℕ → List ℕ → List TableRow
+buildRows p s leaves store =
+    setRows p s ++ (row 10 (not (has leaves (leafWords p s) && has store (storeWords p s))) ∷ notWords p leaves ∷ [])
+
+unfoldable pub buildReply : ℕ → ParameterSet → List ℕ → List ℕ → Reply
+buildReply p s leaves store = reply (buildRows p s leaves store) []
+
+unfoldable pub built : ℕ → ParameterSet → List ℕ → List ℕ → List ℕ
+built p s leaves store = after (buildReply p s leaves store) store (build (treeOf p s) (s .height) leaves)
+
+-- "The root is its last l words"; row 12 is of these.
+unfoldable pub rootRows : ℕ → ParameterSet → List ℕ → List ℕ → List TableRow
+rootRows p s store node =
+    setRows p s
+    ++ (row 10 (not (has store (storeWords p s) && has node (s .«node_size»))) ∷ notWords p (root (treeOf p s) store) ∷ [])
+
+unfoldable pub rootReply : ℕ → ParameterSet → List ℕ → List ℕ → Reply
+rootReply p s store node = reply (rootRows p s store node) []
+
+unfoldable pub rooted : ℕ → ParameterSet → List ℕ → List ℕ → List ℕ
+rooted p s store node = after (rootReply p s store node) node (root (treeOf p s) store)
+
+-- "The storeless root reads leaves only."
+unfoldable pub storelessRows : ℕ → ParameterSet → List ℕ → List ℕ → List TableRow
+storelessRows p s leaves node =
+    setRows p s ++ (row 10 (not (has leaves (leafWords p s) && has node (s .«node_size»))) ∷ notWords p leaves ∷ [])
+
+unfoldable pub storelessReply : ℕ → ParameterSet → List ℕ → List ℕ → Reply
+storelessReply p s leaves node = reply (storelessRows p s leaves node) []
+
+unfoldable pub storelessRooted : ℕ → ParameterSet → List ℕ → List ℕ → List ℕ
+storelessRooted p s leaves node =
+    after (storelessReply p s leaves node) node (storelessRoot (treeOf p s) (s .height) leaves)
+
+-- "The opening of place q"; row 12 covers "for an opening the siblings copied".
+unfoldable pub openRows : ℕ → ParameterSet → List ℕ → ℕ → List ℕ → List TableRow
+openRows p s store q siblings =
+    setRows p s
+    ++ (row 10 (not (has store (storeWords p s) && has siblings (openingWords p s)))
+    ∷ noPlace p s q
+    ∷ notWords p (opening (treeOf p s) (s .height) q store) ∷ [])
+
+unfoldable pub openReply : ℕ → ParameterSet → List ℕ → ℕ → List ℕ → Reply
+openReply p s store q siblings = reply (openRows p s store q siblings) []
+
+unfoldable pub opened : ℕ → ParameterSet → List ℕ → ℕ → List ℕ → List ℕ
+opened p s store q siblings = after (openReply p s store q siblings) siblings (opening (treeOf p s) (s .height) q store)
+
+-- "A verdict is accepted, rejected, or refused with its number": 1 stands for accepted and 0 for rejected.
+unfoldable pub verdictReply : Verdict → Reply
+verdictReply Accepted = done (1 ∷ [])
+verdictReply Rejected = done (0 ∷ [])
+verdictReply (Refused n) = refused n
+
+unfoldable pub verifyRows : ℕ → ParameterSet → List ℕ → ℕ → List ℕ → List ℕ → List TableRow
+verifyRows p s top q leaf siblings =
+    setRows p s
+    ++ (row 10 (not (has top (s .«node_size») && has leaf (s .«node_size») && has siblings (openingWords p s)))
+    ∷ noPlace p s q
+    ∷ notWords p (top ++ (leaf ++ siblings)) ∷ [])
+
+-- "Accepted: the leaf put back among its siblings at each level ends in the given root."
+unfoldable pub verifyReply : ℕ → ParameterSet → List ℕ → ℕ → List ℕ → List ℕ → Reply
+verifyReply p s top q leaf siblings =
+    reply (verifyRows p s top q leaf siblings) (cond (accepts (treeOf p s) (s .height) top q leaf siblings) 1 0 ∷ [])

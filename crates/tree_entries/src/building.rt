@@ -1,0 +1,127 @@
+// Building and roots, under a set that is handed in.
+ghost use mathlib.Core.Path.{_≡_};
+ghost use Prim.Native.Nat.{_-_, _≤_};
+ghost use lib.ListN.{length, drop};
+ghost use Rattle.modular.specs.Arithmetic.{allWords};
+ghost use Rattle.modular.specs.Goldilocks.{p};
+ghost use Rattle.refusals.specs.Table.{firstRow};
+ghost use Rattle.state_entries.specs.Permutation.{outcomeReply};
+ghost use Rattle.tree_entries.specs.Trees.{buildRows, buildReply, built, rootRows, rootReply, rooted, storelessRows, storelessReply, storelessRooted};
+use crate::sizes;
+use parameters::ParameterSet;
+use state_entries::Outcome;
+
+// The first row that turns back a set, leaves and a store to be written, or 0.
+fn row_of_build(set: ParameterSet, leaves: &[u64], store: &[u64]) -> u8
+    ensures { λ r. ⌜ r ≡ firstRow (buildRows p set (now (leaves .entry)) (now (store .entry))) ⌝ }
+{
+    let row = state_entries::row_of(set);
+    if row != 0 {
+        return row;
+    }
+    if leaves.len() != sizes::leaf_words(set) {
+        return 10;
+    }
+    if store.len() != sizes::store_words(set) {
+        return 10;
+    }
+    if !parameters::all_words(leaves) {
+        return 12;
+    }
+    0
+}
+
+// The whole store of a list of leaves.
+pub fn build(set: ParameterSet, leaves: &[u64], store: &mut [u64]) -> Outcome
+    ensures { λ r. ⌜ (outcomeReply r ≡ buildReply p set (now (leaves .entry)) (now (store .entry)))
+        × (now (store .exit) ≡ built p set (now (leaves .entry)) (now (store .entry))) ⌝ }
+{
+    let row = row_of_build(set, leaves, store);
+    if row != 0 {
+        return Outcome::Refused(row);
+    }
+    let d = sizes::dimensions(set);
+    let diagonal = set.diagonal;
+    let constants = set.constants;
+    trees::build(d, &diagonal, &constants, leaves, store);
+    Outcome::Done
+}
+
+// Whether the last words of a store are words.
+fn ends_in_words(store: &[u64], count: usize) -> bool
+    requires { ⌜ count ≤ length (now store) ⌝ }
+    ensures { λ r. ⌜ r ≡ allWords p (drop (length (now (store .entry)) - count) (now (store .entry))) ⌝ }
+{
+    let at = store.len() - count;
+    parameters::all_words(&store[at..])
+}
+
+// The first row that turns back a set, a store and a node to be written, or 0.
+fn row_of_root(set: ParameterSet, store: &[u64], node: &[u64]) -> u8
+    ensures { λ r. ⌜ r ≡ firstRow (rootRows p set (now (store .entry)) (now (node .entry))) ⌝ }
+{
+    let row = state_entries::row_of(set);
+    if row != 0 {
+        return row;
+    }
+    if store.len() != sizes::store_words(set) {
+        return 10;
+    }
+    if node.len() as u64 != set.node_size {
+        return 10;
+    }
+    if !ends_in_words(store, node.len()) {
+        return 12;
+    }
+    0
+}
+
+// The root of a store: its last l words.
+pub fn root(set: ParameterSet, store: &[u64], node: &mut [u64]) -> Outcome
+    ensures { λ r. ⌜ (outcomeReply r ≡ rootReply p set (now (store .entry)) (now (node .entry)))
+        × (now (node .exit) ≡ rooted p set (now (store .entry)) (now (node .entry))) ⌝ }
+{
+    let row = row_of_root(set, store, node);
+    if row != 0 {
+        return Outcome::Refused(row);
+    }
+    let d = sizes::dimensions(set);
+    trees::copy_root(d, store, node);
+    Outcome::Done
+}
+
+// The first row that turns back a set, leaves and a node to be written, or 0.
+fn row_of_storeless(set: ParameterSet, leaves: &[u64], node: &[u64]) -> u8
+    ensures { λ r. ⌜ r ≡ firstRow (storelessRows p set (now (leaves .entry)) (now (node .entry))) ⌝ }
+{
+    let row = state_entries::row_of(set);
+    if row != 0 {
+        return row;
+    }
+    if leaves.len() != sizes::leaf_words(set) {
+        return 10;
+    }
+    if node.len() as u64 != set.node_size {
+        return 10;
+    }
+    if !parameters::all_words(leaves) {
+        return 12;
+    }
+    0
+}
+
+// The root of a list of leaves, without a store.
+pub fn storeless_root(set: ParameterSet, leaves: &[u64], node: &mut [u64]) -> Outcome
+    ensures { λ r. ⌜ (outcomeReply r ≡ storelessReply p set (now (leaves .entry)) (now (node .entry)))
+        × (now (node .exit) ≡ storelessRooted p set (now (leaves .entry)) (now (node .entry))) ⌝ }
+{
+    let row = row_of_storeless(set, leaves, node);
+    if row != 0 {
+        return Outcome::Refused(row);
+    }
+    let d = sizes::dimensions(set);
+    let diagonal = set.diagonal;
+    let constants = set.constants;
+    trees::storeless_root(d, &diagonal, &constants, leaves, node);
+    Outcome::Done
+}

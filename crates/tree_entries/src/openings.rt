@@ -1,0 +1,119 @@
+// Openings and their verification, under a set that is handed in.
+ghost use mathlib.Core.Path.{_≡_};
+ghost use mathlib.Core.List.{[], _∷_, _++_};
+ghost use Rattle.modular.specs.Goldilocks.{p};
+ghost use Rattle.refusals.specs.Table.{firstRow, notWords};
+ghost use Rattle.state_entries.specs.Permutation.{outcomeReply};
+ghost use Rattle.tree_entries.specs.Trees.{openRows, openReply, opened, verdictReply, verifyRows, verifyReply};
+use crate::sizes;
+use crate::verdict::Verdict;
+use parameters::ParameterSet;
+use state_entries::Outcome;
+
+// The first row that turns back a set, a store, a place and siblings to be written, or 0.
+fn row_of_open(set: ParameterSet, store: &[u64], place: u64, siblings: &[u64]) -> u8
+    ensures { λ r. ⌜ r ≡ firstRow (openRows p set (now (store .entry)) place (now (siblings .entry))) ⌝ }
+{
+    let row = state_entries::row_of(set);
+    if row != 0 {
+        return row;
+    }
+    if store.len() != sizes::store_words(set) {
+        return 10;
+    }
+    if siblings.len() != sizes::opening_words(set) {
+        return 10;
+    }
+    if sizes::places(set) as u64 <= place {
+        return 11;
+    }
+    let d = sizes::dimensions(set);
+    if !trees::opening_is_words(d, store, place as usize) {
+        return 12;
+    }
+    0
+}
+
+// The opening of a place: its siblings at each level.
+pub fn open(set: ParameterSet, store: &[u64], place: u64, siblings: &mut [u64]) -> Outcome
+    ensures { λ r. ⌜ (outcomeReply r ≡ openReply p set (now (store .entry)) place (now (siblings .entry)))
+        × (now (siblings .exit) ≡ opened p set (now (store .entry)) place (now (siblings .entry))) ⌝ }
+{
+    let row = row_of_open(set, store, place, siblings);
+    if row != 0 {
+        return Outcome::Refused(row);
+    }
+    let d = sizes::dimensions(set);
+    trees::open(d, store, place as usize, siblings);
+    Outcome::Done
+}
+
+// Row 12 of three lists, or 0.
+fn row_of_words(root: &[u64], leaf: &[u64], siblings: &[u64]) -> u8
+    ensures { λ r. ⌜ r ≡ firstRow (notWords p (now (root .entry) ++ (now (leaf .entry) ++ now (siblings .entry))) ∷ []) ⌝ }
+{
+    if !parameters::all_words(root) {
+        return 12;
+    }
+    if !parameters::all_words(leaf) {
+        return 12;
+    }
+    if !parameters::all_words(siblings) {
+        return 12;
+    }
+    0
+}
+
+// The first row that turns back a set, a root, a place, a leaf and siblings, or 0.
+fn row_of_verify(set: ParameterSet, root: &[u64], place: u64, leaf: &[u64], siblings: &[u64]) -> u8
+    ensures { λ r. ⌜ r ≡ firstRow (verifyRows p set (now (root .entry)) place (now (leaf .entry)) (now (siblings .entry))) ⌝ }
+{
+    let row = state_entries::row_of(set);
+    if row != 0 {
+        return row;
+    }
+    if root.len() as u64 != set.node_size {
+        return 10;
+    }
+    if leaf.len() as u64 != set.node_size {
+        return 10;
+    }
+    if siblings.len() != sizes::opening_words(set) {
+        return 10;
+    }
+    if sizes::places(set) as u64 <= place {
+        return 11;
+    }
+    row_of_words(root, leaf, siblings)
+}
+
+// Whether a leaf with its siblings at a place ends in a root.
+pub fn verify(
+    set: ParameterSet,
+    root: &[u64],
+    place: u64,
+    leaf: &[u64],
+    siblings: &[u64],
+) -> Verdict
+    ensures { λ r. ⌜ verdictReply r ≡ verifyReply p set (now (root .entry)) place (now (leaf .entry)) (now (siblings .entry)) ⌝ }
+{
+    let row = row_of_verify(set, root, place, leaf, siblings);
+    if row != 0 {
+        return Verdict::Refused(row);
+    }
+    let d = sizes::dimensions(set);
+    let diagonal = set.diagonal;
+    let constants = set.constants;
+    if trees::accepts(
+        d,
+        &diagonal,
+        &constants,
+        root,
+        place as usize,
+        leaf,
+        siblings,
+    ) {
+        return Verdict::Accepted;
+    }
+    Verdict::Rejected
+}
