@@ -8,4 +8,4 @@ mod Recursion
 mod Ascent
 mod Siblings
 mod Climb
-mod Verdict
+pub mod Verdict

@@ -1,0 +1,4 @@
+-- The laws that the functions' proofs cite.
+mod Alike
+mod Rows
+mod Search

@@ -1,0 +1,2 @@
+-- What the search for a collision gives.
+pub mod Levels
