@@ -22,6 +22,9 @@ both-good a b e f = rw (e, f)
 pub and-false-left : (a b : Bool) → a ≡ false → (a && b) ≡ false
 and-false-left a b e = rw e
 
+pub and-true-left : (a b : Bool) → a ≡ true → (a && b) ≡ b
+and-true-left a b e = rw e
+
 pub and-false-right : (a b : Bool) → a ≡ true → b ≡ false → (a && b) ≡ false
 and-false-right a b e f = rw (e, f)
 

@@ -6,7 +6,7 @@ use Prim.Native.Nat.{ℕ}
 use lib.Dec.{lit<}
 use borrow.Author.Tests.{not-false}
 use Rattle.modular.specs.Arithmetic.{allWords}
-use Rattle.modular.proofs.Words.{words-left, words-right}
+use Rattle.modular.proofs.Words.{words-append, words-left, words-right}
 use Rattle.refusals.specs.Table.{TableRow, row, notWords, firstRow}
 use Rattle.refusals.proofs.Table.{Numbered, none, next, numbered-append, row-applies, row-passes, row-none, first-back, first-none}
 
@@ -67,3 +67,11 @@ right-not-words p xs ys e = of (allWords p (xs ++ ys)) refl
     of : (b : Bool) → allWords p (xs ++ ys) ≡ b → allWords p (xs ++ ys) ≡ false
     of true h = absurd (false≢true (sym e ∙ words-right p xs ys h))
     of false h = h
+
+-- behind words, what follows decides
+pub words-behind : (p : ℕ) (xs ys : List ℕ) → allWords p xs ≡ true → allWords p (xs ++ ys) ≡ allWords p ys
+words-behind p xs ys e = of (allWords p ys) refl
+  where
+    of : (b : Bool) → allWords p ys ≡ b → allWords p (xs ++ ys) ≡ allWords p ys
+    of true h = words-append p xs ys e h ∙ sym h
+    of false h = right-not-words p xs ys h ∙ sym h

@@ -31,10 +31,10 @@ use Rattle.refusals.proofs.LengthsPlacesAndWords as three
 use Rattle.state_entries.proofs.AcceptedSets as sets
 
 -- both of two lengths are right
-first-long : (xs ys : List ℕ) (m n : ℕ) → (has xs m && has ys n) ≡ true → length xs ≡ m
+pub first-long : (xs ys : List ℕ) (m n : ℕ) → (has xs m && has ys n) ≡ true → length xs ≡ m
 first-long xs ys m n e = eqb-true (length xs) m (left-true (has xs m) (has ys n) e)
 
-second-long : (xs ys : List ℕ) (m n : ℕ) → (has xs m && has ys n) ≡ true → length ys ≡ n
+pub second-long : (xs ys : List ℕ) (m n : ℕ) → (has xs m && has ys n) ≡ true → length ys ≡ n
 second-long xs ys m n e = eqb-true (length ys) n (right-true (has xs m) (has ys n) e)
 
 module _ (s : ParameterSet) (none : firstRow (setRows p s) ≡ 0) where

@@ -1,0 +1,98 @@
+-- Two leaves with their openings that rows 1 to 12 do not turn back.
+use mathlib.Core.Path.{_≡_, sym, ap, _∙_}
+use mathlib.Core.Bool.{Bool, true, false, not, _&&_}
+use mathlib.Core.List.{List, [], _∷_, _++_}
+use Prim.Native.Nat.{ℕ, _<_}
+use borrow.Author.Tests.{eqb-true, eq-eqb, ltb-true, lt-ltb, not-false}
+use lib.Dec.{lit<, ltb}
+use lib.ListN.{length}
+use Rattle.modular.specs.Arithmetic.{allWords}
+use Rattle.modular.specs.Goldilocks.{p}
+use Rattle.modular.proofs.Words.{and-true, left-true, right-true, words-left, words-right, words-append}
+use Rattle.refusals.specs.Table.{firstRow}
+use Rattle.refusals.proofs.Table.{Numbered, none, next, numbered-append, first-none, row-none}
+use Rattle.refusals.proofs.LengthsAndWords.{both-good}
+use Rattle.refusals.proofs.LengthsPlacesAndWords.{at-words, no-twelve}
+use Rattle.refusals.proofs.LengthsPlacesAndWords as three
+use Rattle.parameters.specs.declared.ParameterSet.{ParameterSet}
+use Rattle.parameters.specs.ParameterSet.{setRows}
+use Rattle.parameters.proofs.Accepted.{set-numbered}
+use Rattle.merkle.specs.Lists.{same}
+use Rattle.tree_entries.specs.Trees.{leafCount, openingWords, has, verifyRows}
+use Rattle.tree_entries.proofs.AcceptedTrees.{first-long, second-long}
+use Rattle.change_entries.specs.Extraction.{Pair, opens, pairFits, pairRows, bothAccepted, extractRows}
+
+-- a leaf with its siblings
+pub record Opening (s : ParameterSet) (leaf siblings : List ℕ) : Type 0 where
+  pub leaf-long : length leaf ≡ s .«node_size»
+  pub siblings-long : length siblings ≡ openingWords p s
+  pub leaf-words : allWords p leaf ≡ true
+  pub siblings-words : allWords p siblings ≡ true
+
+pub record Paired (s : ParameterSet) (two : Pair) (first second : List ℕ) : Type 0 where
+  pub set : firstRow (setRows p s) ≡ 0
+  pub root-long : length (two .root) ≡ s .«node_size»
+  pub root-words : allWords p (two .root) ≡ true
+  pub place : two .place < leafCount p s
+  pub opening : Opening s (two .firstLeaf) (two .firstSiblings)
+  pub other : Opening s (two .secondLeaf) (two .secondSiblings)
+  pub first-long : length first ≡ s .width
+  pub second-long : length second ≡ s .width
+
+module _ (s : ParameterSet) (two : Pair) (first second : List ℕ) where
+  open Pair two using (root as top, place as q, firstLeaf as a, firstSiblings as xs, secondLeaf as b, secondSiblings as ys)
+
+  pub pair-numbered : Numbered (pairRows p s two first second)
+  unfolding pairRows
+  pair-numbered = three.all-numbered p _ (set-numbered p s) _ _ _
+
+  pub extract-numbered : Numbered (extractRows p s two first second)
+  unfolding extractRows
+  extract-numbered = numbered-append pair-numbered (next (lit< tt) (next (lit< tt) none))
+
+  pub pair-passed : firstRow (pairRows p s two first second) ≡ 0 → Paired s two first second
+  unfolding pairRows pairFits
+  pair-passed z =
+      let l = s .«node_size» in
+      let n = openingWords p s in
+      let rows : Bool = has first (s .width) && has second (s .width) in
+      let later : Bool = opens p s b ys && rows in
+      let P = three.passed p (setRows p s) (set-numbered p s) (not (has top l && (opens p s a xs && later))) (not (ltb q (leafCount p s))) (top ++ (a ++ (xs ++ (b ++ ys)))) z in
+      let all = not-false (has top l && (opens p s a xs && later)) (P .lengths) in
+      let behind = right-true (has top l) (opens p s a xs && later) all in
+      let one = left-true (opens p s a xs) later behind in
+      let rest = right-true (opens p s a xs) later behind in
+      let other = left-true (opens p s b ys) rows rest in
+      let buffers = right-true (opens p s b ys) rows rest in
+      let w = words-right p top (a ++ (xs ++ (b ++ ys))) (P .words) in
+      let v = words-right p a (xs ++ (b ++ ys)) w in
+      let u = words-right p xs (b ++ ys) v in
+      record {
+        set = P .before;
+        root-long = eqb-true (length top) l (left-true (has top l) (opens p s a xs && later) all);
+        root-words = words-left p top (a ++ (xs ++ (b ++ ys))) (P .words);
+        place = ltb-true q (leafCount p s) (not-false (ltb q (leafCount p s)) (P .place));
+        opening = record {
+          leaf-long = first-long a xs l n one;
+          siblings-long = second-long a xs l n one;
+          leaf-words = words-left p a (xs ++ (b ++ ys)) w;
+          siblings-words = words-left p xs (b ++ ys) v;
+        };
+        other = record {
+          leaf-long = first-long b ys l n other;
+          siblings-long = second-long b ys l n other;
+          leaf-words = words-left p b ys u;
+          siblings-words = words-right p b ys u;
+        };
+        first-long = first-long first second (s .width) (s .width) buffers;
+        second-long = second-long first second (s .width) (s .width) buffers;
+      }
+
+-- no row of the verdict turns back such an opening
+pub verify-passes : (s : ParameterSet) (top : List ℕ) (q : ℕ) (leaf siblings : List ℕ) → firstRow (setRows p s) ≡ 0 → length top ≡ s .«node_size» → allWords p top ≡ true
+    → q < leafCount p s → Opening s leaf siblings → firstRow (verifyRows p s top q leaf siblings) ≡ 0
+unfolding verifyRows
+verify-passes s top q leaf siblings z e w i O =
+    at-words p _ (set-numbered p s) _ _ _ z
+    (both-good _ _ (and-true _ _ (eq-eqb _ _ e) (eq-eqb _ _ (O .leaf-long))) (eq-eqb _ _ (O .siblings-long))) (ap not (lt-ltb _ _ i))
+    ∙ no-twelve p _ (words-append p _ _ w (words-append p _ _ (O .leaf-words) (O .siblings-words)))

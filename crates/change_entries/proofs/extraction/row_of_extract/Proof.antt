@@ -1,0 +1,76 @@
+use mathlib.Core.Path.{_≡_, sym, ap, _∙_}
+use borrow.Author.Needs.{needs}
+use Rattle.modular.specs.Goldilocks.{p}
+use Rattle.refusals.proofs.Table.{first-front}
+use Rattle.refusals.specs.Table.{firstRow}
+use Rattle.change_entries.specs.Extraction.{pair, pairRows, extractRows}
+use Rattle.change_entries.proofs.AcceptedPairs.{Paired, pair-passed, verify-passes}
+use Rattle.change_entries.proofs.Verdicts.{opening-accepted, opening-rejected, first-not-accepted, second-not-accepted, equal-leaves, other-leaves}
+use Rattle.change_entries.proofs.extraction.row_of_extract.Statement.{statement}
+use Rattle.change_entries.proofs.extraction.row_of_extract.Tie as tie
+
+row-of-pair-requires : tie.Need-row-of-pair-requires
+row-of-pair-requires c κs = search needs
+
+returns : tie.Need-returns
+unfolding extractRows
+returns c =
+    let e = c .before .row-of-pair .ensures in
+    e ∙ sym (first-front _ _ (λ z. c .if1 .taken (e ∙ z)))
+
+row-of-opening-requires : tie.Need-row-of-opening-requires
+row-of-opening-requires c κs =
+    let A = pair-passed _ _ _ _ (sym (c .before .row-of-pair .ensures) ∙ c .if1 .left) in
+    verify-passes _ _ _ _ _ (A .set) (A .root-long) (A .root-words) (A .place) (A .opening)
+
+returns-2 : tie.Need-returns-2
+returns-2 c =
+    let r = c .before .before in
+    let f = opening-rejected _ (c .before .row-of-opening .ensures) (c .if2 .taken) in
+    f .1 ∙ first-not-accepted _ _ _ _ (sym (r .before .row-of-pair .ensures) ∙ r .if1 .left) (f .0)
+
+row-of-opening-requires-2 : tie.Need-row-of-opening-requires-2
+row-of-opening-requires-2 c κs =
+    let r = c .before .before in
+    let A = pair-passed _ _ _ _ (sym (r .before .row-of-pair .ensures) ∙ r .if1 .left) in
+    verify-passes _ _ _ _ _ (A .set) (A .root-long) (A .root-words) (A .place) (A .other)
+
+returns-3 : tie.Need-returns-3
+returns-3 c =
+    let o = c .before .before in
+    let r = o .before .before in
+    let f = opening-rejected _ (c .before .row-of-opening2 .ensures) (c .if3 .taken) in
+    f .1 ∙ second-not-accepted _ _ _ _ (sym (r .before .row-of-pair .ensures) ∙ r .if1 .left) (opening-accepted _ (o .before .row-of-opening .ensures) (o .if2 .left)) (f .0)
+
+same-words-requires : tie.Need-same-words-requires
+same-words-requires c κs = search needs
+
+returns-4 : tie.Need-returns-4
+returns-4 c =
+    let u = c .before .before in
+    let o = u .before .before in
+    let r = o .before .before in
+    equal-leaves _ _ _ _ (sym (r .before .row-of-pair .ensures) ∙ r .if1 .left) (opening-accepted _ (o .before .row-of-opening .ensures) (o .if2 .left)) (opening-accepted _ (u .before .row-of-opening2 .ensures) (u .if3 .left))
+    (sym (c .before .same-words .ensures) ∙ c .if4 .taken)
+
+returns-5 : tie.Need-returns-5
+returns-5 c =
+    let u = c .before .before in
+    let o = u .before .before in
+    let r = o .before .before in
+    other-leaves _ _ _ _ (sym (r .before .row-of-pair .ensures) ∙ r .if1 .left) (opening-accepted _ (o .before .row-of-opening .ensures) (o .if2 .left)) (opening-accepted _ (u .before .row-of-opening2 .ensures) (u .if3 .left))
+    (sym (c .before .same-words .ensures) ∙ c .if4 .left)
+
+pub row-of-extract-spec : {M : Type 1} → statement M
+row-of-extract-spec =
+    tie.close
+    (tie.spec
+    row-of-pair-requires
+    returns
+    row-of-opening-requires
+    returns-2
+    row-of-opening-requires-2
+    returns-3
+    same-words-requires
+    returns-4
+    returns-5)

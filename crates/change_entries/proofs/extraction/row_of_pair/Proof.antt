@@ -1,0 +1,74 @@
+use mathlib.Core.Path.{_≡_, sym, ap, _∙_}
+use mathlib.Core.Bool.{not}
+use borrow.Author.Needs.{needs}
+use borrow.Author.Tests.{lt-ltb, le-ltb, not-true, not-false}
+use Rattle.modular.specs.Goldilocks.{p}
+use Rattle.refusals.proofs.Table.{first-front}
+use Rattle.refusals.proofs.LengthsPlacesAndWords.{at-10, at-11, at-words, twelve, no-twelve}
+use Rattle.parameters.proofs.Accepted.{set-numbered}
+use Rattle.change_entries.specs.Extraction.{pairRows}
+use Rattle.change_entries.proofs.extraction.row_of_pair.Statement.{statement}
+use Rattle.change_entries.proofs.extraction.row_of_pair.Tie as tie
+
+row-of-requires : tie.Need-row-of-requires
+row-of-requires c κs = search needs
+
+returns : tie.Need-returns
+unfolding pairRows
+returns c =
+    let e = c .before .row-of .ensures in
+    e ∙ sym (first-front _ _ (λ z. c .if1 .taken (e ∙ z)))
+
+pair-fits-requires : tie.Need-pair-fits-requires
+pair-fits-requires c κs = search needs
+
+returns-2 : tie.Need-returns-2
+unfolding pairRows
+returns-2 c =
+    let r = c .before .before in
+    sym (at-10 p _ (set-numbered p _) _ _ _ (sym (r .before .row-of .ensures) ∙ r .if1 .left) (ap not (sym (c .before .pair-fits .ensures _)) ∙ c .if2 .taken))
+
+places-requires : tie.Need-places-requires
+places-requires c κs = search needs
+
+returns-3 : tie.Need-returns-3
+unfolding pairRows
+returns-3 c =
+    let f = c .before .before in
+    let r = f .before .before in
+    sym (at-11 p _ (set-numbered p _) _ _ _ (sym (r .before .row-of .ensures) ∙ r .if1 .left) (ap not (sym (f .before .pair-fits .ensures _)) ∙ f .if2 .left) (ap not (le-ltb _ _ (rw (c .before .places .ensures) at (c .if3 .taken)))))
+
+pair-is-words-requires : tie.Need-pair-is-words-requires
+pair-is-words-requires c κs = search needs
+
+returns-4 : tie.Need-returns-4
+unfolding pairRows
+returns-4 c =
+    let q = c .before .before in
+    let f = q .before .before in
+    let r = f .before .before in
+    sym (at-words p _ (set-numbered p _) _ _ _ (sym (r .before .row-of .ensures) ∙ r .if1 .left) (ap not (sym (f .before .pair-fits .ensures _)) ∙ f .if2 .left) (ap not (lt-ltb _ _ (rw (q .before .places .ensures) at (q .if3 .left))))
+    ∙ twelve p _ (sym (c .before .pair-is-words .ensures) ∙ not-true _ (c .if4 .taken)))
+
+returns-5 : tie.Need-returns-5
+unfolding pairRows
+returns-5 c =
+    let q = c .before .before in
+    let f = q .before .before in
+    let r = f .before .before in
+    sym (at-words p _ (set-numbered p _) _ _ _ (sym (r .before .row-of .ensures) ∙ r .if1 .left) (ap not (sym (f .before .pair-fits .ensures _)) ∙ f .if2 .left) (ap not (lt-ltb _ _ (rw (q .before .places .ensures) at (q .if3 .left))))
+    ∙ no-twelve p _ (sym (c .before .pair-is-words .ensures) ∙ not-false _ (c .if4 .left)))
+
+pub row-of-pair-spec : {M : Type 1} → statement M
+row-of-pair-spec =
+    tie.close
+    (tie.spec
+    row-of-requires
+    returns
+    pair-fits-requires
+    returns-2
+    places-requires
+    returns-3
+    pair-is-words-requires
+    returns-4
+    returns-5)

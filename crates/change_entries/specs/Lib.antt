@@ -1,0 +1,3 @@
+-- What the entries of replacement and extraction reply and leave.
+pub mod Replacement
+pub mod Extraction

@@ -1,0 +1,247 @@
+// The extractor of a collision from two leaves that are both accepted at one place, under a set that is handed in.
+ghost use mathlib.Core.Path.{_≡_};
+ghost use mathlib.Core.Bool.{not};
+ghost use mathlib.Core.List.{[], _∷_, _++_};
+ghost use Prim.Native.Nat.{ℕ};
+ghost use Rattle.modular.specs.Arithmetic.{allWords};
+ghost use Rattle.modular.specs.Goldilocks.{p};
+ghost use Rattle.refusals.specs.Table.{row, firstRow};
+ghost use Rattle.parameters.specs.ParameterSet.{setRows};
+ghost use Rattle.merkle.specs.Openings.{accepts};
+ghost use Rattle.tree_entries.specs.Trees.{treeOf, verifyRows};
+ghost use Rattle.change_entries.specs.Extraction.{extractionReply, pair, opens, pairFits, pairRows, extractRows, extractReply, extractedFirst, extractedSecond};
+use parameters::ParameterSet;
+use tree_entries::Verdict;
+use tree_entries::sizes;
+
+// The level of the collision, or the number of the table's row that turns the call back.
+pub enum Extraction {
+    Level(u64),
+    Refused(u8),
+}
+
+// Whether a leaf and its siblings have their lengths.
+fn opens(set: ParameterSet, leaf: &[u64], siblings: &[u64]) -> bool
+    requires { ⌜ firstRow (setRows p set) ≡ 0 ⌝ }
+    ensures { λ r. ⌜ r ≡ opens p set (now (leaf .entry)) (now (siblings .entry)) ⌝ }
+{
+    if leaf.len() as u64 != set.node_size {
+        return false;
+    }
+    siblings.len() == sizes::opening_words(set)
+}
+
+// Whether everything that is lent has its length.
+fn pair_fits(
+    set: ParameterSet,
+    root: &[u64],
+    first: &[u64],
+    first_siblings: &[u64],
+    second: &[u64],
+    second_siblings: &[u64],
+    first_row: &[u64],
+    second_row: &[u64],
+) -> bool
+    requires { ⌜ firstRow (setRows p set) ≡ 0 ⌝ }
+    ensures { λ r. ⌜ ((q : ℕ) → r ≡ pairFits p set (pair (now (root .entry)) q (now (first .entry)) (now («first_siblings» .entry)) (now (second .entry)) (now («second_siblings» .entry))) (now («first_row» .entry)) (now («second_row» .entry))) ⌝ }
+{
+    if root.len() as u64 != set.node_size {
+        return false;
+    }
+    if !opens(set, first, first_siblings) {
+        return false;
+    }
+    if !opens(set, second, second_siblings) {
+        return false;
+    }
+    if first_row.len() as u64 != set.width {
+        return false;
+    }
+    second_row.len() as u64 == set.width
+}
+
+// Whether every number of the root, the leaves and their siblings is a word.
+fn pair_is_words(
+    root: &[u64],
+    first: &[u64],
+    first_siblings: &[u64],
+    second: &[u64],
+    second_siblings: &[u64],
+) -> bool
+    ensures { λ r. ⌜ r ≡ allWords p (now (root .entry) ++ (now (first .entry) ++ (now («first_siblings» .entry) ++ (now (second .entry) ++ now («second_siblings» .entry))))) ⌝ }
+{
+    if !parameters::all_words(root) {
+        return false;
+    }
+    if !parameters::all_words(first) {
+        return false;
+    }
+    if !parameters::all_words(first_siblings) {
+        return false;
+    }
+    if !parameters::all_words(second) {
+        return false;
+    }
+    parameters::all_words(second_siblings)
+}
+
+// The first of rows 1 to 12 that applies, or 0.
+fn row_of_pair(
+    set: ParameterSet,
+    root: &[u64],
+    place: u64,
+    first: &[u64],
+    first_siblings: &[u64],
+    second: &[u64],
+    second_siblings: &[u64],
+    first_row: &[u64],
+    second_row: &[u64],
+) -> u8
+    ensures { λ r. ⌜ r ≡ firstRow (pairRows p set (pair (now (root .entry)) place (now (first .entry)) (now («first_siblings» .entry)) (now (second .entry)) (now («second_siblings» .entry))) (now («first_row» .entry)) (now («second_row» .entry))) ⌝ }
+{
+    let row = state_entries::row_of(set);
+    if row != 0 {
+        return row;
+    }
+    if !pair_fits(
+        set,
+        root,
+        first,
+        first_siblings,
+        second,
+        second_siblings,
+        first_row,
+        second_row,
+    ) {
+        return 10;
+    }
+    if sizes::places(set) as u64 <= place {
+        return 11;
+    }
+    if !pair_is_words(root, first, first_siblings, second, second_siblings) {
+        return 12;
+    }
+    0
+}
+
+// The row that turns back an opening of such a pair: 14 where its verdict is not that it is accepted, or 0.
+fn row_of_opening(set: ParameterSet, root: &[u64], place: u64, leaf: &[u64], siblings: &[u64]) -> u8
+    requires { ⌜ firstRow (verifyRows p set (now root) place (now leaf) (now siblings)) ≡ 0 ⌝ }
+    ensures { λ r. ⌜ r ≡ firstRow (row 14 (not (accepts (treeOf p set) (set .height) (now (root .entry)) place (now (leaf .entry)) (now (siblings .entry)))) ∷ []) ⌝ }
+{
+    match tree_entries::verify(set, root, place, leaf, siblings) {
+        Verdict::Accepted => 0,
+        Verdict::Rejected => 14,
+        Verdict::Refused(number) => number,
+    }
+}
+
+// The first row that turns back a pair of openings, or 0.
+fn row_of_extract(
+    set: ParameterSet,
+    root: &[u64],
+    place: u64,
+    first: &[u64],
+    first_siblings: &[u64],
+    second: &[u64],
+    second_siblings: &[u64],
+    first_row: &[u64],
+    second_row: &[u64],
+) -> u8
+    ensures { λ r. ⌜ r ≡ firstRow (extractRows p set (pair (now (root .entry)) place (now (first .entry)) (now («first_siblings» .entry)) (now (second .entry)) (now («second_siblings» .entry))) (now («first_row» .entry)) (now («second_row» .entry))) ⌝ }
+{
+    let row = row_of_pair(
+        set,
+        root,
+        place,
+        first,
+        first_siblings,
+        second,
+        second_siblings,
+        first_row,
+        second_row,
+    );
+    if row != 0 {
+        return row;
+    }
+    let row = row_of_opening(set, root, place, first, first_siblings);
+    if row != 0 {
+        return row;
+    }
+    let row = row_of_opening(set, root, place, second, second_siblings);
+    if row != 0 {
+        return row;
+    }
+    if collisions::same_words(first, second) {
+        return 15;
+    }
+    0
+}
+
+// The lowest level at which the rows of the two leaves differ and compress alike. The first leaf's row there is written to the first
+// buffer, the second's to the second.
+pub fn extract(
+    set: ParameterSet,
+    root: &[u64],
+    place: u64,
+    first: &[u64],
+    first_siblings: &[u64],
+    second: &[u64],
+    second_siblings: &[u64],
+    first_row: &mut [u64],
+    second_row: &mut [u64],
+) -> Extraction
+    ensures { λ r. ⌜ (extractionReply r ≡ extractReply p set (pair (now (root .entry)) place (now (first .entry)) (now («first_siblings» .entry)) (now (second .entry)) (now («second_siblings» .entry))) (now («first_row» .entry)) (now («second_row» .entry)))
+        × (now («first_row» .exit) ≡ extractedFirst p set (pair (now (root .entry)) place (now (first .entry)) (now («first_siblings» .entry)) (now (second .entry)) (now («second_siblings» .entry))) (now («first_row» .entry)) (now («second_row» .entry)))
+        × (now («second_row» .exit) ≡ extractedSecond p set (pair (now (root .entry)) place (now (first .entry)) (now («first_siblings» .entry)) (now (second .entry)) (now («second_siblings» .entry))) (now («first_row» .entry)) (now («second_row» .entry))) ⌝ }
+{
+    let row = row_of_extract(
+        set,
+        root,
+        place,
+        first,
+        first_siblings,
+        second,
+        second_siblings,
+        first_row,
+        second_row,
+    );
+    if row != 0 {
+        return Extraction::Refused(row);
+    }
+    let d = sizes::dimensions(set);
+    let diagonal = set.diagonal;
+    let constants = set.constants;
+    let at = place as usize;
+    let level = collisions::lowest_level(
+        d,
+        &diagonal,
+        &constants,
+        at,
+        first,
+        first_siblings,
+        second,
+        second_siblings,
+    );
+    collisions::copy_row(
+        d,
+        &diagonal,
+        &constants,
+        at,
+        first,
+        first_siblings,
+        level,
+        first_row,
+    );
+    collisions::copy_row(
+        d,
+        &diagonal,
+        &constants,
+        at,
+        second,
+        second_siblings,
+        level,
+        second_row,
+    );
+    Extraction::Level(level as u64)
+}

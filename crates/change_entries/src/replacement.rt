@@ -1,0 +1,51 @@
+// A leaf replaced in a store, under a set that is handed in.
+ghost use mathlib.Core.Path.{_≡_};
+ghost use Rattle.modular.specs.Goldilocks.{p};
+ghost use Rattle.refusals.specs.Table.{firstRow};
+ghost use Rattle.change_entries.specs.Replacement.{changedReply, replaceRows, replaceReply, replaced};
+use crate::changed::Changed;
+use parameters::ParameterSet;
+use tree_entries::sizes;
+
+// The first row that turns back a set, a store, a place and a leaf, or 0.
+fn row_of_replace(set: ParameterSet, store: &[u64], place: u64, leaf: &[u64]) -> u8
+    ensures { λ r. ⌜ r ≡ firstRow (replaceRows p set (now (store .entry)) place (now (leaf .entry))) ⌝ }
+{
+    let row = state_entries::row_of(set);
+    if row != 0 {
+        return row;
+    }
+    if store.len() != sizes::store_words(set) {
+        return 10;
+    }
+    if leaf.len() as u64 != set.node_size {
+        return 10;
+    }
+    if sizes::places(set) as u64 <= place {
+        return 11;
+    }
+    if !parameters::all_words(leaf) {
+        return 12;
+    }
+    let d = sizes::dimensions(set);
+    if !trees::opening_is_words(d, store, place as usize) {
+        return 12;
+    }
+    0
+}
+
+// The leaf is written at its place and the nodes above it are made anew; the answer is how many these are.
+pub fn replace(set: ParameterSet, store: &mut [u64], place: u64, leaf: &[u64]) -> Changed
+    ensures { λ r. ⌜ (changedReply r ≡ replaceReply p set (now (store .entry)) place (now (leaf .entry)))
+        × (now (store .exit) ≡ replaced p set (now (store .entry)) place (now (leaf .entry))) ⌝ }
+{
+    let row = row_of_replace(set, store, place, leaf);
+    if row != 0 {
+        return Changed::Refused(row);
+    }
+    let d = sizes::dimensions(set);
+    let diagonal = set.diagonal;
+    let constants = set.constants;
+    let made = trees::replace(d, &diagonal, &constants, store, place as usize, leaf);
+    Changed::Compressions(made)
+}
