@@ -12,7 +12,7 @@ use Rattle.merkle.specs.Extraction.{collide, collideAt}
 use Rattle.merkle.proofs.Lists.{lowest-some, lowest-none}
 use Rattle.trees.specs.declared.Dimensions.{Dimensions}
 use Rattle.trees.specs.Shapes.{tree, ValidNumbers}
-use Rattle.trees.proofs.Verdict.{Walked, walked-more}
+use Rattle.paths.proofs.Verdict.{Walked, walked-more}
 use Rattle.collisions.specs.Levels.{levelOr}
 use Rattle.collisions.proofs.Rows.{row-made}
 

@@ -11,7 +11,6 @@ ghost use Rattle.trees.specs.Shapes.{tree, ValidNumbers, ValidSet};
 ghost use Rattle.collisions.specs.Levels.{levelOr};
 use trees::Dimensions;
 use trees::nodes;
-use trees::paths;
 
 // Whether two lists begin with the same n words.
 fn first_alike(a: &[u64], b: &[u64], n: usize) -> bool

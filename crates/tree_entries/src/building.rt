@@ -122,6 +122,6 @@ pub fn storeless_root(set: ParameterSet, leaves: &[u64], node: &mut [u64]) -> Ou
     let d = sizes::dimensions(set);
     let diagonal = set.diagonal;
     let constants = set.constants;
-    trees::storeless_root(d, &diagonal, &constants, leaves, node);
+    storeless::storeless_root(d, &diagonal, &constants, leaves, node);
     Outcome::Done
 }

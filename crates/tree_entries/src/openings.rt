@@ -104,7 +104,7 @@ pub fn verify(
     let d = sizes::dimensions(set);
     let diagonal = set.diagonal;
     let constants = set.constants;
-    if trees::accepts(
+    if paths::accepts(
         d,
         &diagonal,
         &constants,

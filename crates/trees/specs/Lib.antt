@@ -1,3 +1,2 @@
--- The tree of a parameter set, and what the storeless root's functions presume.
+-- The tree of a parameter set.
 pub mod Shapes
-pub mod Within

@@ -2,21 +2,17 @@
 pub mod building;
 pub mod nodes;
 pub mod openings;
-pub mod paths;
 pub mod replacement;
 pub mod sizes;
-pub mod storeless;
 
 pub use building::build;
 pub use building::copy_root;
 pub use openings::open;
 pub use openings::opening_is_words;
-pub use paths::accepts;
 pub use replacement::replace;
 pub use replacement::replace_from;
 pub use sizes::leaf_count;
 pub use sizes::store_size;
-pub use storeless::storeless_root;
 
 // A set's numbers, as the tree uses them: the arity is the width over the node size, `half` half the full rounds.
 pub struct Dimensions {

@@ -8,7 +8,7 @@ use Rattle.merkle.proofs.Levels.{fits}
 use Rattle.merkle.proofs.Openings.{but-one}
 use Rattle.trees.specs.Shapes.{tree}
 use Rattle.trees.proofs.Shapes.{regular, width-small, node-small}
-use Rattle.trees.proofs.Verdict.{walked-none}
+use Rattle.paths.proofs.Verdict.{walked-none}
 use Rattle.collisions.proofs.Search.{Climbed, climbed-none, found-none, found, climbed-more}
 use Rattle.collisions.proofs.lowest_level.Statement.{statement}
 use Rattle.collisions.proofs.lowest_level.Tie as tie

@@ -1,9 +1,9 @@
 use native.Mathlib.Omega.{arith}
 use Rattle.trees.proofs.Shapes.{node-small}
-use Rattle.trees.proofs.Recursion.{at-root, root-copied}
+use Rattle.storeless.proofs.Recursion.{at-root, root-copied}
 use borrow.Author.Needs.{needs}
-use Rattle.trees.proofs.storeless.storeless_root.Statement.{statement}
-use Rattle.trees.proofs.storeless.storeless_root.Tie as tie
+use Rattle.storeless.proofs.storeless_root.Statement.{statement}
+use Rattle.storeless.proofs.storeless_root.Tie as tie
 
 node-requires : tie.Need-node-requires
 node-requires c κs = at-root (c .before .before .pre .0) (c .before .before .pre .1)

@@ -1,11 +1,11 @@
 use native.Mathlib.Omega.{arith}
 use lib.ListN.{replicate}
 use Rattle.trees.specs.Shapes.{tree}
 use Rattle.trees.proofs.Shapes.{regular, room, width-small, node-small}
-use Rattle.trees.proofs.Verdict.{put-back-copied}
+use Rattle.paths.proofs.Verdict.{put-back-copied}
 use borrow.Author.Needs.{needs}
-use Rattle.trees.proofs.paths.path_row.Statement.{statement}
-use Rattle.trees.proofs.paths.path_row.Tie as tie
+use Rattle.paths.proofs.path_row.Statement.{statement}
+use Rattle.paths.proofs.path_row.Tie as tie
 
 mul-before : tie.Need-mul-before
 mul-before c =

@@ -3,22 +3,22 @@ use mathlib.Core.Path.{_≡_}
 use Prim.Native.Nat.{suc, _+_, _*_, _-_}
 use native.Mathlib.Omega.{arith}
 use lib.ListN.{replicate}
 use Rattle.trees.proofs.Shapes.{arity-small, node-small}
-use Rattle.trees.proofs.Recursion.{at-leaf, at-row, at-fewer, at-last, place-small, in-row, node-leaf, node-row, row-none, row-more}
+use Rattle.storeless.proofs.Recursion.{at-leaf, at-row, at-fewer, at-last, place-small, in-row, node-leaf, node-row, row-none, row-more}
 use Prim.Native.Nat.{ℕ, _<_}
 use borrow.Fn.Kinds.{In}
 use borrow.Fn.PlainCycle.{Measures, is, falls, and}
-use Rattle.trees.proofs.storeless.node.Reads as node
-use Rattle.trees.proofs.storeless.node.Kinds as node-kinds
-use Rattle.trees.proofs.storeless.+node+row.Lts-node as node-lts
-use Rattle.trees.proofs.storeless.row.Reads as row
-use Rattle.trees.proofs.storeless.row.Kinds as row-kinds
-use Rattle.trees.proofs.storeless.+node+row.Lts-row as row-lts
+use Rattle.storeless.proofs.node.Reads as node
+use Rattle.storeless.proofs.node.Kinds as node-kinds
+use Rattle.storeless.proofs.+node+row.Lts-node as node-lts
+use Rattle.storeless.proofs.row.Reads as row
+use Rattle.storeless.proofs.row.Kinds as row-kinds
+use Rattle.storeless.proofs.+node+row.Lts-row as row-lts
 use Rattle.trees.proofs.nodes.compress_row.Reads as compress-row-reads
 use Rattle.trees.proofs.nodes.node_at.Reads as node-at-reads
-use Rattle.trees.proofs.storeless.put_node.Reads as put-node-reads
-use Rattle.trees.proofs.storeless.+node+row.{statement}
-use Rattle.trees.proofs.storeless.+node+row.Tie.{close}
+use Rattle.storeless.proofs.put_node.Reads as put-node-reads
+use Rattle.storeless.proofs.+node+row.{statement}
+use Rattle.storeless.proofs.+node+row.Tie.{close}
 
 abbrev μ-node : Measures 3 node-kinds.ps ℕ
 μ-node κs a = 16 * a .1 .1 .1 .1 .0

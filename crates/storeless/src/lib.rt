@@ -4,10 +4,10 @@ ghost use mathlib.Core.List.{_++_};
 ghost use Prim.Native.Nat.{_+_, _*_, _^_, _≤_};
 ghost use lib.ListN.{length, take};
 ghost use Rattle.merkle.specs.Storeless.{nodeOf, rowOf, storelessRoot};
 ghost use Rattle.trees.specs.Shapes.{tree, ValidSet};
-ghost use Rattle.trees.specs.Within.{Within};
-use crate::Dimensions;
-use crate::nodes;
+ghost use Rattle.storeless.specs.Within.{Within};
+use trees::Dimensions;
+use trees::nodes;
 
 // The first places of a row, then a node.
 fn put_node(row: [u64; 12], at: usize, node: [u64; 6], node_size: usize) -> [u64; 12]

@@ -5,9 +5,9 @@ ghost use Prim.Native.Nat.{ℕ, _+_, _*_, _-_, _≤_, _<_};
 ghost use lib.ListN.{length, take};
 ghost use Rattle.merkle.specs.Lists.{same, part};
 ghost use Rattle.merkle.specs.Openings.{putBack, pathNode, accepts};
 ghost use Rattle.trees.specs.Shapes.{tree, ValidNumbers, ValidSet};
-use crate::Dimensions;
-use crate::nodes;
+use trees::Dimensions;
+use trees::nodes;
 
 // A node put back at its own place c among the siblings of its row, which stand from `at` on.
 pub fn path_row(d: Dimensions, own: [u64; 6], siblings: &[u64], at: usize, c: usize) -> [u64; 12]

@@ -10,10 +10,10 @@ use Rattle.merkle.specs.Storeless.{nodeOf, rowOf, storelessRoot}
 use Rattle.merkle.proofs.Lists.{put-whole}
 use Rattle.merkle.proofs.Levels.{fits, count-down, count-root}
 use Rattle.merkle.proofs.Storeless.{node-from-row, row-from-none, row-from-nodes, length-node-of}
 use Rattle.trees.specs.declared.Dimensions.{Dimensions}
 use Rattle.trees.specs.Shapes.{tree, ValidSet}
-use Rattle.trees.specs.Within.{Within}
+use Rattle.storeless.specs.Within.{Within}
 use Rattle.trees.proofs.Shapes.{regular, width-small}
 
 module _ {d : Dimensions} {C leaves : List ℕ} where
   -- a leaf is there

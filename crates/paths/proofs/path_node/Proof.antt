@@ -7,11 +7,11 @@ use native.Mathlib.Omega.{arith}
 use Rattle.merkle.specs.Openings.{pathNode}
 use Rattle.merkle.proofs.Levels.{fits}
 use Rattle.merkle.proofs.Openings.{but-one}
 use Rattle.trees.specs.Shapes.{tree}
 use Rattle.trees.proofs.Shapes.{regular, width-small, node-small}
-use Rattle.trees.proofs.Verdict.{Walked, walked-none, walked-more}
-use Rattle.trees.proofs.paths.path_node.Statement.{statement}
-use Rattle.trees.proofs.paths.path_node.Tie as tie
+use Rattle.paths.proofs.Verdict.{Walked, walked-none, walked-more}
+use Rattle.paths.proofs.path_node.Statement.{statement}
+use Rattle.paths.proofs.path_node.Tie as tie
 
 abbrev Inv-loop : tie.InvT-loop
 Inv-loop d diagonal constants place leaf siblings level arity beside own₀ number₀ j₀ own number j = (j ≤ level) × (Walked d diagonal constants place leaf siblings j own number)

@@ -4,9 +4,9 @@ use Prim.Native.Nat.{ℕ, _-_, _≤_, _<_}
 use native.Mathlib.Omega.{arith}
 use borrow.Author.Count.{below-more}
 use lib.ListN.{length, getD}
 use Rattle.trees.proofs.Lists.{all-same, one-differs}
-use Rattle.trees.proofs.paths.begins.Statement.{statement}
-use Rattle.trees.proofs.paths.begins.Tie as tie
+use Rattle.paths.proofs.begins.Statement.{statement}
+use Rattle.paths.proofs.begins.Tie as tie
 
 abbrev Inv-loop : tie.InvT-loop
 Inv-loop list words i₀ i = (i ≤ length list) × ((k : ℕ) → k < i → getD words k 0 ≡ getD list k 0)

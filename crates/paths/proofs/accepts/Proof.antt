@@ -5,10 +5,10 @@ use native.Mathlib.Omega.{arith}
 use lib.ListN.{take}
 use Rattle.merkle.specs.Lists.{same}
 use Rattle.merkle.specs.Openings.{accepts}
 use Rattle.trees.proofs.Shapes.{node-small}
 use borrow.Author.Needs.{needs}
-use Rattle.trees.proofs.paths.accepts.Statement.{statement}
-use Rattle.trees.proofs.paths.accepts.Tie as tie
+use Rattle.paths.proofs.accepts.Statement.{statement}
+use Rattle.paths.proofs.accepts.Tie as tie
 
 path-node-requires : tie.Need-path-node-requires
 path-node-requires c κs = search needs

@@ -4,10 +4,10 @@ use native.Mathlib.Omega.{arith}
 use lib.ListN.{take}
 use Rattle.merkle.specs.Lists.{part}
 use Rattle.merkle.proofs.Lists.{length-part}
 use Rattle.trees.proofs.Lists.{take-put-next}
 use borrow.Author.Needs.{needs}
-use Rattle.trees.proofs.storeless.put_node.Statement.{statement}
-use Rattle.trees.proofs.storeless.put_node.Tie as tie
+use Rattle.storeless.proofs.put_node.Statement.{statement}
+use Rattle.storeless.proofs.put_node.Tie as tie
 
 slice-aggregate-copy-words : tie.Need-slice-aggregate-copy-words
 slice-aggregate-copy-words c = search needs

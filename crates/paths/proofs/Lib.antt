@@ -1,0 +1,2 @@
+-- What the path's functions keep.
+pub mod Verdict

@@ -1,0 +1,2 @@
+-- Nodes from rows, and rows from nodes.
+mod Recursion

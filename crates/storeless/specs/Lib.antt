@@ -1,0 +1,2 @@
+-- What the functions presume.
+pub mod Within
