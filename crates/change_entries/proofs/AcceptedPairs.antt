@@ -29,6 +29,9 @@ pub record Opening (s : ParameterSet) (leaf siblings : List ℕ) : Type 0 where
   pub leaf-words : allWords p leaf ≡ true
   pub siblings-words : allWords p siblings ≡ true
 
+opens-true : {s : ParameterSet} {leaf siblings : List ℕ} → Opening s leaf siblings → opens p s leaf siblings ≡ true
+opens-true O = and-true _ _ (eq-eqb _ _ (O .leaf-long)) (eq-eqb _ _ (O .siblings-long))
+
 pub record Paired (s : ParameterSet) (two : Pair) (first second : List ℕ) : Type 0 where
   pub set : firstRow (setRows p s) ≡ 0
   pub root-long : length (two .root) ≡ s .«node_size»
@@ -87,6 +90,14 @@ module _ (s : ParameterSet) (two : Pair) (first second : List ℕ) where
         first-long = first-long first second (s .width) (s .width) buffers;
         second-long = second-long first second (s .width) (s .width) buffers;
       }
+
+  pub pair-passes : Paired s two first second → firstRow (pairRows p s two first second) ≡ 0
+  unfolding pairRows pairFits
+  pair-passes P =
+      at-words p _ (set-numbered p s) _ _ _ (P .set)
+      (ap not (and-true _ _ (eq-eqb _ _ (P .root-long)) (and-true _ _ (opens-true (P .opening)) (and-true _ _ (opens-true (P .other)) (and-true _ _ (eq-eqb _ _ (P .first-long)) (eq-eqb _ _ (P .second-long)))))))
+      (ap not (lt-ltb _ _ (P .place)))
+      ∙ no-twelve p _ (words-append p _ _ (P .root-words) (words-append p _ _ (P .opening .leaf-words) (words-append p _ _ (P .opening .siblings-words) (words-append p _ _ (P .other .leaf-words) (P .other .siblings-words)))))
 
 -- no row of the verdict turns back such an opening
 pub verify-passes : (s : ParameterSet) (top : List ℕ) (q : ℕ) (leaf siblings : List ℕ) → firstRow (setRows p s) ≡ 0 → length top ≡ s .«node_size» → allWords p top ≡ true

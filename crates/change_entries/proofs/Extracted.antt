@@ -40,7 +40,7 @@ module _ (s : ParameterSet) (two : Pair) (first second : List ℕ) (z : firstRow
   accepted : (not (bothAccepted p s two) ≡ false) × (firstRow (row 15 (same a b) ∷ []) ≡ 0)
   accepted = row-none 13 (not (bothAccepted p s two)) (row 15 (same a b) ∷ []) (pairs .1)
 
-  both : bothAccepted p s two ≡ true
+  pub both : bothAccepted p s two ≡ true
   both = not-false (bothAccepted p s two) (accepted .0)
 
   pub differ : a ≢ b

@@ -3,3 +3,4 @@ pub mod AcceptedChanges
 pub mod AcceptedPairs
 mod Verdicts
 pub mod Extracted
+pub mod Statements

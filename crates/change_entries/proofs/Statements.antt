@@ -1,0 +1,70 @@
+-- The extractor gives a collision wherever rows 1 to 12 are past and two different leaves are both accepted.
+use mathlib.Core.Path.{_≡_, sym, ap, subst, _∙_}
+use mathlib.Core.Logic.{_≢_}
+use mathlib.Core.Bool.{true, not}
+use mathlib.Core.List.{List, [], _∷_}
+use mathlib.Core.Option.{Option}
+use Prim.Native.Nat.{ℕ, _<_}
+use Rattle.modular.specs.Goldilocks.{p}
+use Rattle.modular.proofs.Words.{left-true, right-true}
+use Rattle.refusals.specs.Table.{firstRow, done}
+use Rattle.refusals.proofs.Table.{reply-done, written-after}
+use Rattle.parameters.specs.declared.ParameterSet.{ParameterSet}
+use Rattle.parameters.specs.ParameterSet.{setRows}
+use Rattle.merkle.specs.Openings.{pathRow, accepts}
+use Rattle.merkle.specs.Extraction.{Collision}
+use Rattle.merkle.proofs.Lists.{ne-same}
+use Rattle.merkle.proofs.Openings.{length-path-row, path-row-words}
+use Rattle.trees.proofs.Shapes.{keeps-words}
+use Rattle.state_entries.specs.Permutation.{compressUnder}
+use Rattle.tree_entries.specs.Trees.{treeOf}
+use Rattle.tree_entries.proofs.AcceptedTrees.{valid-numbers, width-is, shape-regular}
+use Rattle.change_entries.specs.Extraction.{Pair, bothAccepted, extractRows, collision, levelOf, firstOf, secondOf, extractReply, extractedFirst, extractedSecond}
+use Rattle.change_entries.specs.Statements.{IsRow, Collides, Extracting}
+use Rattle.change_entries.proofs.AcceptedPairs.{Opening, extract-numbered}
+use Rattle.change_entries.proofs.Verdicts.{other-leaves}
+use Rattle.change_entries.proofs.Extracted.{paired, found, collided}
+
+-- what a verdict compresses at a level is a row
+row-at : (s : ParameterSet) → firstRow (setRows p s) ≡ 0 → (q : ℕ) (leaf siblings : List ℕ) → Opening s leaf siblings
+    → (j : ℕ) → j < s .height → IsRow s (pathRow (treeOf p s) q leaf siblings j)
+row-at s valid q leaf siblings O j below = (
+  length-path-row (treeOf p s) (shape-regular s valid) (s .height) q leaf siblings (O .leaf-long) (O .siblings-long) j below ∙ width-is s valid,
+  path-row-words (treeOf p s) (shape-regular s valid) (s .height) q leaf siblings (O .leaf-long) (O .siblings-long) p (keeps-words (valid-numbers s valid) (s .diagonal) (s .constants)) (O .leaf-words) (O .siblings-words) j below,
+)
+
+module _ (s : ParameterSet) (two : Pair) (first second : List ℕ) (z : firstRow (extractRows p s two first second) ≡ 0) where
+  replies : extractReply p s two first second ≡ done (levelOf (collision p s two) ∷ [])
+  unfolding extractReply
+  replies = reply-done (extractRows p s two first second) (levelOf (collision p s two) ∷ []) (extract-numbered s two first second) z
+
+  pub collides : Collides s two first second
+  unfolding levelOf firstOf secondOf extractedFirst extractedSecond compressUnder
+  collides =
+      let P = paired s two first second z in
+      let c = found s two first second z .collision in
+      let C = found s two first second z .lowestOne in
+      let given = collided s two first second z in
+      let one : extractedFirst p s two first second ≡ c .first =
+      sym (written-after first (firstOf (collision p s two) first) replies) ∙ ap (λ (o : Option Collision). firstOf o first) given in
+      let other : extractedSecond p s two first second ≡ c .second =
+      sym (written-after second (secondOf (collision p s two) second) replies) ∙ ap (λ (o : Option Collision). secondOf o second) given in
+      record {
+        level = c .level;
+        below = C .below;
+        answered = replies ∙ ap (λ (o : Option Collision). done (levelOf o ∷ [])) given;
+        rows = (
+          subst (IsRow s) (sym (one ∙ C .first)) (row-at s (P .set) (two .place) (two .firstLeaf) (two .firstSiblings) (P .opening) (c .level) (C .below)),
+          subst (IsRow s) (sym (other ∙ C .second)) (row-at s (P .set) (two .place) (two .secondLeaf) (two .secondSiblings) (P .other) (c .level) (C .below)),
+        );
+        differ = λ w. C .differ (sym one ∙ w ∙ other);
+        alike = ap (treeOf p s .compress) one ∙ C .alike ∙ sym (ap (treeOf p s .compress) other);
+      }
+
+pub extracting : Extracting
+unfolding bothAccepted
+extracting s two first second none both differ =
+    let one = accepts (treeOf p s) (s .height) (two .root) (two .place) (two .firstLeaf) (two .firstSiblings) in
+    let other = accepts (treeOf p s) (s .height) (two .root) (two .place) (two .secondLeaf) (two .secondSiblings) in
+    collides s two first second
+    (sym (other-leaves s two first second none (left-true one other both) (right-true one other both) (ne-same (two .firstLeaf) (two .secondLeaf) differ)))

@@ -1,0 +1,32 @@
+-- What is claimed of the extractor: behind rows 1 to 12 it answers 14, 15, or a collision.
+use mathlib.Core.Path.{_≡_}
+use mathlib.Core.Logic.{_≢_}
+use mathlib.Core.Bool.{true}
+use mathlib.Core.List.{List, [], _∷_}
+use Prim.Native.Nat.{ℕ, _<_}
+use lib.ListN.{length}
+use Rattle.modular.specs.Arithmetic.{allWords}
+use Rattle.modular.specs.Goldilocks.{p}
+use Rattle.refusals.specs.Table.{firstRow, done}
+use Rattle.parameters.specs.declared.ParameterSet.{ParameterSet}
+use Rattle.state_entries.specs.Permutation.{compressUnder}
+use Rattle.change_entries.specs.Extraction.{Pair, pairRows, bothAccepted, extractReply, extractedFirst, extractedSecond}
+
+-- a row: t words
+abbrev pub IsRow : ParameterSet → List ℕ → Type 0
+IsRow s xs = (length xs ≡ s .width) × (allWords p xs ≡ true)
+
+-- The extractor, handed two leaves with their openings and two buffers, answers a level and writes two different rows that compress alike.
+pub record Collides (s : ParameterSet) (two : Pair) (first second : List ℕ) : Type 0 where
+  pub level : ℕ
+  pub below : level < s .height
+  pub answered : extractReply p s two first second ≡ done (level ∷ [])
+  pub rows : IsRow s (extractedFirst p s two first second) × IsRow s (extractedSecond p s two first second)
+  pub differ : extractedFirst p s two first second ≢ extractedSecond p s two first second
+  pub alike : compressUnder p s (extractedFirst p s two first second) ≡ compressUnder p s (extractedSecond p s two first second)
+
+-- It does so wherever rows 1 to 12 are past and two different leaves are both accepted: where neither 14 nor 15 applies.
+abbrev pub Extracting : Type 0
+Extracting =
+    (s : ParameterSet) (two : Pair) (first second : List ℕ) → firstRow (pairRows p s two first second) ≡ 0
+    → bothAccepted p s two ≡ true → two .firstLeaf ≢ two .secondLeaf → Collides s two first second
