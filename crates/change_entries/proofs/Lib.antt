@@ -1,6 +1,2 @@
--- What passes where no row applies, what a verdict says there, and the collision that is found.
-pub mod AcceptedChanges
-pub mod AcceptedPairs
-mod Verdicts
-pub mod Extracted
-pub mod Statements
+-- What passes where no row applies.
+mod AcceptedChanges

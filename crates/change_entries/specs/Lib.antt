@@ -1,4 +1,2 @@
--- What the entries of replacement and extraction reply and leave, and what is claimed of the extractor.
+-- What a replacement replies and leaves.
 pub mod Replacement
-pub mod Extraction
-pub mod Statements

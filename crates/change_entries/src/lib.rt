@@ -1,9 +1,6 @@
-// The entries that change a built store, and the extractor of collisions.
+// The entry that changes one leaf of a built store.
 pub mod changed;
-pub mod extraction;
 pub mod replacement;
 
 pub use changed::Changed;
-pub use extraction::Extraction;
-pub use extraction::extract;
 pub use replacement::replace;

@@ -3,7 +3,7 @@ use mathlib.Core.Path.{_≡_, _∙_}
 use mathlib.Core.List.{List, [], _∷_}
 use Prim.Native.Nat.{ℕ, _≤_, _<_}
 use Rattle.modular.proofs.Words.{none-words, word-first, not-word-first}
-use Rattle.refusals.specs.Table.{TableRow, notWords, Reply, refused, reply}
+use Rattle.refusals.specs.Table.{TableRow, notWords, refused, reply}
 use Rattle.refusals.proofs.Table.{words-applied, words-passed}
 
 module _ (p a : ℕ) (rows : List TableRow) (result : List ℕ) where

@@ -1,9 +1,9 @@
 // The library's public entries, each defined in a crate of its own kind. None presumes anything of its caller: each tests the rows
 // of document 01's table in their order, answers the first that applies with every buffer as it was, or does the work.
 pub use change_entries::Changed;
-pub use change_entries::Extraction;
-pub use change_entries::extract;
 pub use change_entries::replace;
+pub use extraction_entries::Extraction;
+pub use extraction_entries::extract;
 pub use field_entries::Answer;
 pub use field_entries::difference;
 pub use field_entries::inverse;

@@ -1,18 +1,17 @@
 -- The tree of a set that no row turns down: what the tree's work is handed.
-use mathlib.Core.Path.{_≡_, refl, sym, ap, _∙_}
+use mathlib.Core.Path.{_≡_, refl, ap, _∙_}
 use mathlib.Core.Bool.{true, not, _&&_}
 use mathlib.Core.List.{List}
-use Prim.Native.Nat.{ℕ, _+_, _*_, _-_, _/_, _%_, _^_, _≤_, _<_}
+use Prim.Native.Nat.{ℕ, _+_, _*_, _-_, _/_, _^_, _≤_, _<_}
 use native.Mathlib.Nat.{div-add-mod', div-le-self, mul-le-mul, mul-le-mul-right, one-le-pow}
 use native.Mathlib.Omega.{arith}
 use lib.Dec.{lit<, ltb}
 use borrow.Author.Tests.{eqb-true, ltb-true, not-false}
-use lib.ListN.{length, take, length-drop}
+use lib.ListN.{length, length-drop}
 use Rattle.modular.specs.Goldilocks.{p}
 use Rattle.modular.proofs.Words.{left-true, right-true}
 use Rattle.refusals.specs.Table.{firstRow}
 use Rattle.refusals.proofs.Table.{Numbered}
-use Rattle.poseidon2.specs.Statements.{Width, Words}
 use Rattle.parameters.specs.declared.ParameterSet.{ParameterSet}
 use Rattle.parameters.specs.ParameterSet.{setRows}
 use Rattle.parameters.proofs.Accepted.{Numbers, set-numbered}

@@ -9,7 +9,7 @@ ghost use Rattle.refusals.specs.Table.{row, firstRow};
 ghost use Rattle.parameters.specs.ParameterSet.{setRows};
 ghost use Rattle.merkle.specs.Openings.{accepts};
 ghost use Rattle.tree_entries.specs.Trees.{treeOf, verifyRows};
-ghost use Rattle.change_entries.specs.Extraction.{extractionReply, pair, opens, pairFits, pairRows, extractRows, extractReply, extractedFirst, extractedSecond};
+ghost use Rattle.extraction_entries.specs.Extraction.{extractionReply, pair, opens, pairFits, pairRows, extractRows, extractReply, extractedFirst, extractedSecond};
 use parameters::ParameterSet;
 use tree_entries::Verdict;
 use tree_entries::sizes;

@@ -1,7 +1,5 @@
 -- The extractor gives a collision wherever rows 1 to 12 are past and two different leaves are both accepted.
 use mathlib.Core.Path.{_≡_, sym, ap, subst, _∙_}
-use mathlib.Core.Logic.{_≢_}
-use mathlib.Core.Bool.{true, not}
 use mathlib.Core.List.{List, [], _∷_}
 use mathlib.Core.Option.{Option}
 use Prim.Native.Nat.{ℕ, _<_}
@@ -19,11 +17,11 @@ use Rattle.trees.proofs.Shapes.{keeps-words}
 use Rattle.state_entries.specs.Permutation.{compressUnder}
 use Rattle.tree_entries.specs.Trees.{treeOf}
 use Rattle.tree_entries.proofs.AcceptedTrees.{valid-numbers, width-is, shape-regular}
-use Rattle.change_entries.specs.Extraction.{Pair, bothAccepted, extractRows, collision, levelOf, firstOf, secondOf, extractReply, extractedFirst, extractedSecond}
-use Rattle.change_entries.specs.Statements.{IsRow, Collides, Extracting}
-use Rattle.change_entries.proofs.AcceptedPairs.{Opening, extract-numbered}
-use Rattle.change_entries.proofs.Verdicts.{other-leaves}
-use Rattle.change_entries.proofs.Extracted.{paired, found, collided}
+use Rattle.extraction_entries.specs.Extraction.{Pair, bothAccepted, extractRows, collision, levelOf, firstOf, secondOf, extractReply, extractedFirst, extractedSecond}
+use Rattle.extraction_entries.specs.Statements.{IsRow, Collides, Extracting}
+use Rattle.extraction_entries.proofs.AcceptedPairs.{Opening, extract-numbered}
+use Rattle.extraction_entries.proofs.Verdicts.{other-leaves}
+use Rattle.extraction_entries.proofs.Extracted.{paired, found, collided}
 
 -- what a verdict compresses at a level is a row
 row-at : (s : ParameterSet) → firstRow (setRows p s) ≡ 0 → (q : ℕ) (leaf siblings : List ℕ) → Opening s leaf siblings

@@ -1,11 +1,10 @@
-use mathlib.Core.Path.{_≡_, sym, ap, _∙_}
-use mathlib.Core.Bool.{Bool, _&&_}
+use mathlib.Core.Path.{sym, _∙_}
 use borrow.Author.Needs.{needs}
 use borrow.Author.Tests.{eq-eqb, ne-eqb, not-true, not-false}
 use Rattle.refusals.proofs.LengthsAndWords.{and-false-left, and-true-left}
-use Rattle.change_entries.specs.Extraction.{pairFits}
-use Rattle.change_entries.proofs.extraction.pair_fits.Statement.{statement}
-use Rattle.change_entries.proofs.extraction.pair_fits.Tie as tie
+use Rattle.extraction_entries.specs.Extraction.{pairFits}
+use Rattle.extraction_entries.proofs.pair_fits.Statement.{statement}
+use Rattle.extraction_entries.proofs.pair_fits.Tie as tie
 
 returns : tie.Need-returns
 unfolding pairFits

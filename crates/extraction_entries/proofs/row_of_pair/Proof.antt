@@ -1,4 +1,4 @@
-use mathlib.Core.Path.{_≡_, sym, ap, _∙_}
+use mathlib.Core.Path.{sym, ap, _∙_}
 use mathlib.Core.Bool.{not}
 use borrow.Author.Needs.{needs}
 use borrow.Author.Tests.{lt-ltb, le-ltb, not-true, not-false}
@@ -6,9 +6,9 @@ use Rattle.modular.specs.Goldilocks.{p}
 use Rattle.refusals.proofs.Table.{first-front}
 use Rattle.refusals.proofs.LengthsPlacesAndWords.{at-10, at-11, at-words, twelve, no-twelve}
 use Rattle.parameters.proofs.Accepted.{set-numbered}
-use Rattle.change_entries.specs.Extraction.{pairRows}
-use Rattle.change_entries.proofs.extraction.row_of_pair.Statement.{statement}
-use Rattle.change_entries.proofs.extraction.row_of_pair.Tie as tie
+use Rattle.extraction_entries.specs.Extraction.{pairRows}
+use Rattle.extraction_entries.proofs.row_of_pair.Statement.{statement}
+use Rattle.extraction_entries.proofs.row_of_pair.Tie as tie
 
 row-of-requires : tie.Need-row-of-requires
 row-of-requires c κs = search needs

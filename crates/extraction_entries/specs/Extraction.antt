@@ -10,8 +10,8 @@ use Rattle.merkle.specs.Lists.{same}
 use Rattle.merkle.specs.Openings.{accepts}
 use Rattle.merkle.specs.Extraction.{Collision, extract}
 use Rattle.tree_entries.specs.Trees.{treeOf, openingWords, has, noPlace}
-use Rattle.change_entries.specs.declared.extraction.Extraction.{Extraction}
-use Rattle.change_entries.specs.declared.extraction.Extraction.the-variants.{Level, Refused}
+use Rattle.extraction_entries.specs.declared.Extraction.{Extraction}
+use Rattle.extraction_entries.specs.declared.Extraction.the-variants.{Level, Refused}
 
 -- The number and the values of each case of the answer.
 unfoldable pub extractionReply : Extraction → Reply

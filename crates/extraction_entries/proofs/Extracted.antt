@@ -14,13 +14,13 @@ use Rattle.parameters.specs.declared.ParameterSet.{ParameterSet}
 use Rattle.merkle.specs.Lists.{same, lowest}
 use Rattle.merkle.specs.Openings.{pathRow, accepts}
 use Rattle.merkle.specs.Extraction.{Collision, collideAt, withRows, extract}
-use Rattle.merkle.specs.Statements.{LowestCollision, Extracts}
+use Rattle.merkle.specs.Statements.{Extracts}
 use Rattle.merkle.proofs.Lists.{same-false}
 use Rattle.collisions.specs.Levels.{levelOr}
 use Rattle.tree_entries.specs.Trees.{treeOf}
 use Rattle.tree_entries.proofs.AcceptedTrees.{laws}
-use Rattle.change_entries.specs.Extraction.{Pair, pairRows, bothAccepted, extractRows, collision, levelOf, firstOf, secondOf}
-use Rattle.change_entries.proofs.AcceptedPairs.{Paired, pair-numbered, pair-passed}
+use Rattle.extraction_entries.specs.Extraction.{Pair, pairRows, bothAccepted, extractRows, collision, levelOf, firstOf, secondOf}
+use Rattle.extraction_entries.proofs.AcceptedPairs.{Paired, pair-numbered, pair-passed}
 
 -- a level of a collision, or another where there is none
 level-or : ℕ → Option Collision → ℕ

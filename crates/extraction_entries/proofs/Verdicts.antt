@@ -6,7 +6,7 @@ use mathlib.Core.List.{List, [], _∷_}
 use Prim.Native.Nat.{ℕ}
 use native.Mathlib.Omega.{arith}
 use Rattle.modular.specs.Goldilocks.{p}
-use Rattle.refusals.specs.Table.{TableRow, row, firstRow, Reply, refused, done}
+use Rattle.refusals.specs.Table.{row, firstRow, Reply, refused, done}
 use Rattle.refusals.proofs.Table.{first-back, reply-done, row-applies, row-passes}
 use Rattle.refusals.proofs.LengthsAndWords.{and-false-left, and-false-right}
 use Rattle.parameters.specs.declared.ParameterSet.{ParameterSet}
@@ -17,8 +17,8 @@ use Rattle.tree_entries.specs.declared.verdict.Verdict.{Verdict}
 use Rattle.tree_entries.specs.declared.verdict.Verdict.the-variants.{Accepted, Rejected, Refused}
 use Rattle.tree_entries.specs.Trees.{treeOf, verdictReply, verifyRows, verifyReply}
 use Rattle.tree_entries.proofs.AcceptedTrees.{verify-numbered}
-use Rattle.change_entries.specs.Extraction.{Pair, pairRows, bothAccepted, extractRows}
-use Rattle.change_entries.proofs.AcceptedPairs.{pair-numbered}
+use Rattle.extraction_entries.specs.Extraction.{Pair, pairRows, bothAccepted, extractRows}
+use Rattle.extraction_entries.proofs.AcceptedPairs.{pair-numbered}
 
 -- the number of a result, and 2 for a refusal
 abbrev value : Reply → ℕ

@@ -1,16 +1,16 @@
-use mathlib.Core.Path.{_≡_, sym, ap, _∙_}
+use mathlib.Core.Path.{sym, ap, _∙_}
 use mathlib.Core.List.{[], _∷_}
 use Prim.Native.Nat.{ℕ}
 use borrow.Author.Needs.{needs}
 use Rattle.modular.specs.Goldilocks.{p}
-use Rattle.refusals.specs.Table.{firstRow, done}
+use Rattle.refusals.specs.Table.{done}
 use Rattle.refusals.proofs.Table.{refused-equations, done-equations}
 use Rattle.tree_entries.proofs.AcceptedTrees as trees
-use Rattle.change_entries.specs.Extraction.{pair, extractionReply, extractRows, extractReply, extractedFirst, extractedSecond}
-use Rattle.change_entries.proofs.AcceptedPairs.{extract-numbered}
-use Rattle.change_entries.proofs.Extracted.{paired, level-below, level-is, first-is, second-is}
-use Rattle.change_entries.proofs.extraction.extract.Statement.{statement}
-use Rattle.change_entries.proofs.extraction.extract.Tie as tie
+use Rattle.extraction_entries.specs.Extraction.{extractionReply, extractRows, extractReply, extractedFirst, extractedSecond}
+use Rattle.extraction_entries.proofs.AcceptedPairs.{extract-numbered}
+use Rattle.extraction_entries.proofs.Extracted.{paired, level-below, level-is, first-is, second-is}
+use Rattle.extraction_entries.proofs.extract.Statement.{statement}
+use Rattle.extraction_entries.proofs.extract.Tie as tie
 
 row-of-extract-requires : tie.Need-row-of-extract-requires
 row-of-extract-requires c κs = search needs

@@ -1,7 +1,7 @@
 -- Two leaves with their openings that rows 1 to 12 do not turn back.
-use mathlib.Core.Path.{_≡_, sym, ap, _∙_}
-use mathlib.Core.Bool.{Bool, true, false, not, _&&_}
-use mathlib.Core.List.{List, [], _∷_, _++_}
+use mathlib.Core.Path.{_≡_, ap, _∙_}
+use mathlib.Core.Bool.{Bool, true, not, _&&_}
+use mathlib.Core.List.{List, _++_}
 use Prim.Native.Nat.{ℕ, _<_}
 use borrow.Author.Tests.{eqb-true, eq-eqb, ltb-true, lt-ltb, not-false}
 use lib.Dec.{lit<, ltb}
@@ -10,17 +10,16 @@ use Rattle.modular.specs.Arithmetic.{allWords}
 use Rattle.modular.specs.Goldilocks.{p}
 use Rattle.modular.proofs.Words.{and-true, left-true, right-true, words-left, words-right, words-append}
 use Rattle.refusals.specs.Table.{firstRow}
-use Rattle.refusals.proofs.Table.{Numbered, none, next, numbered-append, first-none, row-none}
+use Rattle.refusals.proofs.Table.{Numbered, none, next, numbered-append}
 use Rattle.refusals.proofs.LengthsAndWords.{both-good}
 use Rattle.refusals.proofs.LengthsPlacesAndWords.{at-words, no-twelve}
 use Rattle.refusals.proofs.LengthsPlacesAndWords as three
 use Rattle.parameters.specs.declared.ParameterSet.{ParameterSet}
 use Rattle.parameters.specs.ParameterSet.{setRows}
 use Rattle.parameters.proofs.Accepted.{set-numbered}
-use Rattle.merkle.specs.Lists.{same}
 use Rattle.tree_entries.specs.Trees.{leafCount, openingWords, has, verifyRows}
 use Rattle.tree_entries.proofs.AcceptedTrees.{first-long, second-long}
-use Rattle.change_entries.specs.Extraction.{Pair, opens, pairFits, pairRows, bothAccepted, extractRows}
+use Rattle.extraction_entries.specs.Extraction.{Pair, opens, pairFits, pairRows, extractRows}
 
 -- a leaf with its siblings
 pub record Opening (s : ParameterSet) (leaf siblings : List ℕ) : Type 0 where

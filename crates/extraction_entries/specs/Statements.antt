@@ -10,7 +10,7 @@ use Rattle.modular.specs.Goldilocks.{p}
 use Rattle.refusals.specs.Table.{firstRow, done}
 use Rattle.parameters.specs.declared.ParameterSet.{ParameterSet}
 use Rattle.state_entries.specs.Permutation.{compressUnder}
-use Rattle.change_entries.specs.Extraction.{Pair, pairRows, bothAccepted, extractReply, extractedFirst, extractedSecond}
+use Rattle.extraction_entries.specs.Extraction.{Pair, pairRows, bothAccepted, extractReply, extractedFirst, extractedSecond}
 
 -- a row: t words
 abbrev pub IsRow : ParameterSet → List ℕ → Type 0

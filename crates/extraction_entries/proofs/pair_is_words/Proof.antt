@@ -1,14 +1,10 @@
-use mathlib.Core.Path.{_≡_, sym, _∙_}
-use mathlib.Core.Bool.{Bool, true, false}
-use mathlib.Core.List.{List, _++_}
-use Prim.Native.Nat.{ℕ}
+use mathlib.Core.Path.{sym, _∙_}
 use borrow.Author.Needs.{needs}
 use borrow.Author.Tests.{not-true, not-false}
-use Rattle.modular.specs.Arithmetic.{allWords}
 use Rattle.modular.specs.Goldilocks.{p}
 use Rattle.refusals.proofs.LengthsPlacesAndWords.{left-not-words, words-behind}
-use Rattle.change_entries.proofs.extraction.pair_is_words.Statement.{statement}
-use Rattle.change_entries.proofs.extraction.pair_is_words.Tie as tie
+use Rattle.extraction_entries.proofs.pair_is_words.Statement.{statement}
+use Rattle.extraction_entries.proofs.pair_is_words.Tie as tie
 
 all-words-requires : tie.Need-all-words-requires
 all-words-requires c κs = search needs

@@ -1,12 +1,12 @@
-use mathlib.Core.Path.{_≡_, sym, ap, _∙_}
+use mathlib.Core.Path.{sym, ap, _∙_}
 use Prim.Native.Nat.{ℕ}
 use lib.Dec.{eqb}
 use lib.ListN.{length}
 use borrow.Author.Needs.{needs}
 use borrow.Author.Tests.{eq-eqb, ne-eqb}
 use Rattle.refusals.proofs.LengthsAndWords.{and-false-left, and-true-left}
-use Rattle.change_entries.proofs.extraction.opens.Statement.{statement}
-use Rattle.change_entries.proofs.extraction.opens.Tie as tie
+use Rattle.extraction_entries.proofs.opens.Statement.{statement}
+use Rattle.extraction_entries.proofs.opens.Tie as tie
 
 returns : tie.Need-returns
 returns c = sym (and-false-left _ _ (ne-eqb _ _ (c .if1 .taken)))

@@ -1,7 +1,7 @@
 use borrow.Author.Needs.{needs}
-use Rattle.change_entries.proofs.Verdicts.{row-of-accepted, row-of-rejected, row-of-refused}
-use Rattle.change_entries.proofs.extraction.row_of_opening.Statement.{statement}
-use Rattle.change_entries.proofs.extraction.row_of_opening.Tie as tie
+use Rattle.extraction_entries.proofs.Verdicts.{row-of-accepted, row-of-rejected, row-of-refused}
+use Rattle.extraction_entries.proofs.row_of_opening.Statement.{statement}
+use Rattle.extraction_entries.proofs.row_of_opening.Tie as tie
 
 verify-requires : tie.Need-verify-requires
 verify-requires c κs = search needs

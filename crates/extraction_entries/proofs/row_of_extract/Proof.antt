@@ -1,13 +1,11 @@
-use mathlib.Core.Path.{_≡_, sym, ap, _∙_}
+use mathlib.Core.Path.{sym, _∙_}
 use borrow.Author.Needs.{needs}
-use Rattle.modular.specs.Goldilocks.{p}
 use Rattle.refusals.proofs.Table.{first-front}
-use Rattle.refusals.specs.Table.{firstRow}
-use Rattle.change_entries.specs.Extraction.{pair, pairRows, extractRows}
-use Rattle.change_entries.proofs.AcceptedPairs.{Paired, pair-passed, verify-passes}
-use Rattle.change_entries.proofs.Verdicts.{opening-accepted, opening-rejected, first-not-accepted, second-not-accepted, equal-leaves, other-leaves}
-use Rattle.change_entries.proofs.extraction.row_of_extract.Statement.{statement}
-use Rattle.change_entries.proofs.extraction.row_of_extract.Tie as tie
+use Rattle.extraction_entries.specs.Extraction.{extractRows}
+use Rattle.extraction_entries.proofs.AcceptedPairs.{pair-passed, verify-passes}
+use Rattle.extraction_entries.proofs.Verdicts.{opening-accepted, opening-rejected, first-not-accepted, second-not-accepted, equal-leaves, other-leaves}
+use Rattle.extraction_entries.proofs.row_of_extract.Statement.{statement}
+use Rattle.extraction_entries.proofs.row_of_extract.Tie as tie
 
 row-of-pair-requires : tie.Need-row-of-pair-requires
 row-of-pair-requires c κs = search needs

@@ -1,0 +1,5 @@
+-- What passes where no row applies, what a verdict says there, and the collision that is found.
+pub mod AcceptedPairs
+mod Verdicts
+pub mod Extracted
+pub mod Statements
