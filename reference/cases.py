@@ -1,33 +1,25 @@
-"""Makes the input of the program `vectors`: the cases of its sections `sets`, `states` and `trees`.
+"""Makes the input of the program `vectors`: the cases of its sections `sets` and `states`.
 
 The input is decimal numbers below 2^64, each followed by one byte that is no
 digit: a newline after a line's last number, a space after any other. The first
 line is how many lines follow. Each of these is one of
 
-    0 SECTION                         the header of section 0 (sets), 1 (states) or 2 (trees)
+    0 SECTION                         the header of section 0 (sets) or 1 (states)
     1 SET D C                         validate
     2 SET BEYOND D C STATE NODE       permute, unpermute and compress, in full
     3 SET BEYOND D C STATE NODE       permute, unpermute and compress, as digests
-    4 SET BEYOND D C LEAVES TREE      a tree and its places, in full
-    5 SET BEYOND D C LEAVES TREE      a tree and its places, as digests
-    6 SET BEYOND D C HELD PLACE       a call of each entry of a tree
 
 where SET is the five numbers t l h R_F R_P; D, C and STATE are lists; BEYOND is
 the number that a set's places hold beyond D and beyond C; and NODE is the
-length of the node that compress is lent, each of whose numbers is 7 before.
-LEAVES is a list; TREE is the three numbers STORE SIBLINGS PLACES, the length of
-the store, that of the siblings, and the number of places that are asked for, 0
-the first. HELD is two numbers COUNT FAULT for each of leaves, store, siblings,
-root and leaf: its first COUNT places get drawn numbers as in a list, with seeds
-0 to 4 in this order, and p is at place FAULT - 1, unless FAULT is 0. The root is
-also the node that a root is written to. A list is
+length of the node that compress is lent, each of whose numbers is 7 before. A
+list is
 
     COUNT SEED RUNS {PLACE LENGTH VALUE ...} ...
 
 and is made in a buffer of a fixed number of places: 16 for D and 224 for C in
 validate, whose lists may be too long; 12 for D and 208 for C in a set that is
-handed in; 16 for a state; 1024 for the lists of a tree. Every place first holds BEYOND (0 in validate and in
-a state); then the first COUNT places get the first COUNT drawn numbers of the
+handed in; 16 for a state. Every place first holds BEYOND (0 in validate and in a
+state); then the first COUNT places get the first COUNT drawn numbers of the
 generator with that seed (generator.py), each modulo p; then each of the RUNS
 runs writes its LENGTH values from its PLACE on. The list is the buffer's first
 COUNT places; a set that is handed in holds the whole buffer. No COUNT and no
@@ -51,10 +43,9 @@ from parameters import CONSTANT_PLACES, DIAGONAL_PLACES, ParameterSet, constant_
 LIST_DIAGONAL_PLACES = 16
 LIST_CONSTANT_PLACES = 224
 STATE_PLACES = 16
-TREE_PLACES = 1024
 LARGEST = 2**64 - 1
 
-HEADER, VALIDATE, IN_FULL, DIGESTS, TREE_IN_FULL, TREE, CALLS = range(7)
+HEADER, VALIDATE, IN_FULL, DIGESTS = range(4)
 
 
 @dataclass
@@ -531,184 +522,17 @@ def states_cases() -> Iterator[tuple[int, Case]]:
             yield (DIGESTS, case)
 
 
-# The section `trees`.
-
-
-@dataclass
-class Tree:
-    """A set, the leaves and the sizes of a tree, and how many places are asked for."""
-
-    case: Case
-    leaves: Listed
-    store: int
-    siblings: int
-    places: int
-
-    def line(self, what: int) -> list[int]:
-        """The line that asks for this."""
-        numbers = [what, *self.case.set_text(), *self.leaves.text()]
-        return [*numbers, self.store, self.siblings, self.places]
-
-
-@dataclass
-class Calls:
-    """A set, and what each of the entries of a tree is handed; `rows` are those that refuse
-    build, root, storeless_root, open and verify, 0 for none."""
-
-    case: Case
-    lists: dict[str, Listed]
-    place: int
-    rows: list[int]
-
-    def line(self, what: int) -> list[int]:
-        """The line that asks for this."""
-        held = [n for name in HELD for n in self.held(name)]
-        return [what, *self.case.set_text(), *held, self.place]
-
-    def held(self, name: str) -> list[int]:
-        """The count of a list, and where it has p."""
-        listed = self.lists[name]
-        return [listed.count, listed.runs[0][0] + 1 if listed.runs else 0]
-
-
-HELD = ["leaves", "store", "siblings", "root", "leaf"]
-
-
-def tree_sizes(width: int, node_size: int, height: int) -> tuple[int, int, int, int]:
-    """The lengths of leaves, store and siblings, and the number of places."""
-    k = width // node_size
-    nodes = sum(k**j for j in range(height + 1))
-    return (
-        k**height * node_size,
-        nodes * node_size,
-        height * (width - node_size),
-        k**height,
-    )
-
-
-def seeded_tree(width: int, node_size: int, height: int, full: int, partial: int, seed: int) -> Tree:
-    """A tree of drawn leaves, from the seed after those of the set."""
-    leaves, store, siblings, places = tree_sizes(width, node_size, height)
-    case = seeded(width, node_size, height, full, partial, seed)
-    return Tree(case, Listed(leaves, seed + 2), store, siblings, places)
-
-
-def tree_t() -> Tree:
-    """The tree over T of the leaves (1,0) and (0,0), and a place that it hasn't."""
-    return Tree(case_t(), Listed(4, 0, [(0, [1, 0, 0, 0])]), 6, 2, 3)
-
-
-def tree_heights(width: int, node_size: int) -> list[int]:
-    """0 to 3, and the largest, of those whose store has a place for each word."""
-    fit = [h for h in range(10) if tree_sizes(width, node_size, h)[1] <= TREE_PLACES]
-    return [h for h in fit if h <= 3 or h == fit[-1]]
-
-
-def seeded_trees() -> Iterator[Tree]:
-    """Every width and node size, with each of its heights."""
-    for i, (t, l) in enumerate(SIZES):
-        for h in tree_heights(t, l):
-            yield seeded_tree(t, l, h, 2 + 2 * (h % 2), h % 3, i)
-
-
-# A fault of a call: the list that is longer or shorter, or has a number that is no word.
-
-CallFault = tuple[str, int, int | None]
-
-
-def seeded_calls(base: tuple[int, int, int], faults: list[CallFault], rows: str, place: int = 0) -> Calls:
-    """Lists of the right lengths, but for the faults."""
-    t, l, h = base
-    leaves, store, siblings, _ = tree_sizes(t, l, h)
-    counts = {"leaves": leaves, "store": store, "siblings": siblings, "root": l, "leaf": l}
-    lists = {name: Listed(counts[name], i) for i, name in enumerate(HELD)}
-    for name, by, at_place in faults:
-        lists[name].count += by
-        if at_place is not None:
-            lists[name].write(at_place, P)
-    return Calls(seeded(t, l, h, 2, 0, 5), lists, place, [int(row) for row in rows.split()])
-
-
-def refused_lengths() -> Iterator[Calls]:
-    """Each list one shorter and one longer; two faults at once where no entry takes both."""
-    for by in (-1, 1):
-        yield seeded_calls((4, 2, 2), [("leaves", by, None), ("leaf", by, None)], "10 0 10 0 10")
-        yield seeded_calls((8, 2, 1), [("store", by, None)], "10 10 0 10 0")
-        yield seeded_calls((4, 1, 1), [("siblings", by, None)], "0 0 0 10 10")
-        yield seeded_calls((4, 2, 1), [("root", by, None)], "0 10 10 0 10")
-
-
-def refused_places() -> Iterator[Calls]:
-    """The first number that is no place, and the largest number."""
-    yield seeded_calls((4, 2, 2), [], "0 0 0 11 11", 4)
-    yield seeded_calls((8, 8 // 2, 1), [], "0 0 0 11 11", LARGEST)
-    yield seeded_calls((4, 2, 2), [], "0 0 0 0 0", 3)
-    yield seeded_calls((12, 6, 0), [], "0 0 0 11 11", 1)
-
-
-def refused_words() -> Iterator[Calls]:
-    """p in each list. A store is read at the root alone, and at the siblings alone."""
-    base = (4, 2, 2)
-    yield seeded_calls(base, [("leaves", 0, 0), ("leaf", 0, 0)], "12 0 12 0 12")
-    yield seeded_calls(base, [("leaves", 0, 7), ("leaf", 0, 1)], "12 0 12 0 12")
-    yield seeded_calls(base, [("store", 0, 12), ("root", 0, 0)], "0 12 0 0 12")
-    yield seeded_calls(base, [("store", 0, 13), ("root", 0, 1)], "0 12 0 0 12")
-    yield seeded_calls(base, [("store", 0, 2), ("siblings", 0, 0)], "0 0 0 12 12")
-    yield seeded_calls(base, [("store", 0, 11), ("siblings", 0, 3)], "0 0 0 12 12")
-    # The leaf itself, the node above it, and the children of another node.
-    for at_place in (0, 8, 5):
-        yield seeded_calls(base, [("store", 0, at_place)], "0 0 0 0 0")
-
-
-def refused_twice() -> Iterator[Calls]:
-    """Two rows at once: the lower one is answered."""
-    base = (4, 2, 2)
-    lengths = [("leaves", 1, 0), ("siblings", 1, 0)]
-    yield seeded_calls(base, [*lengths, ("store", 0, 13)], "10 12 10 10 10", 4)
-    yield seeded_calls(base, [("store", 1, 14), ("root", 1, 0)], "10 10 10 10 10", 4)
-    yield seeded_calls(base, [("store", 0, 11), ("leaf", 0, 0)], "0 0 0 11 11", 4)
-
-
-def refused_sets() -> Iterator[Calls]:
-    """A set that a row turns back, and a fault more."""
-    base = (4, 2, 1)
-    for row, fault in (
-        (1, changed("width", 5)),
-        (2, changed("node_size", 3)),
-        (3, changed("full_rounds", 3)),
-        (5, changed("height", 33)),
-        (7, at("constants", 7, P)),
-        (8, at("diagonal", 0, 0)),
-        (9, cancelling(Listed(4, 5).numbers(LIST_DIAGONAL_PLACES), 3)),
-    ):
-        more = [("leaves", row % 2, 0), ("siblings", 0, 0)]
-        calls = seeded_calls(base, more if row in (1, 5, 9) else [], " ".join([str(row)] * 5), row % 3)
-        fault(calls.case)
-        yield calls
-
-
-def trees_cases() -> Iterator[tuple[int, Tree | Calls]]:
-    """The section `trees`."""
-    yield (TREE_IN_FULL, tree_t())
-    for tree in seeded_trees():
-        yield (TREE, tree)
-    for part in (refused_lengths, refused_places, refused_words, refused_twice, refused_sets):
-        for calls in part():
-            yield (CALLS, calls)
-
-
-SECTIONS = [sets_cases, states_cases, trees_cases]
-
-
-def lines() -> list[str]:
-    """Every line of the input."""
+def lines(sections: list[Callable[[], Iterator[tuple]]]) -> list[str]:
+    """Every line of a program's input."""
     rows = []
-    for number, section in enumerate(SECTIONS):
+    for number, section in enumerate(sections):
         rows.append([HEADER, number])
         rows += [case.line(what) for what, case in section()]
     return [" ".join(map(str, row)) for row in [[len(rows)], *rows]]
 
 
+SECTIONS = [sets_cases, states_cases]
+
 if __name__ == "__main__":
-    for line in lines():
+    for line in lines(SECTIONS):
         print(line)

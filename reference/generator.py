@@ -1,4 +1,4 @@
-"""The generator of 64-bit numbers that the reference and the program `vectors` share.
+"""The generator of 64-bit numbers that the reference and the programs share.
 
 It holds a number x, which a seed starts. A draw does
 

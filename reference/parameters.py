@@ -5,6 +5,7 @@ that applies is the lowest.
 """
 
 from dataclasses import dataclass
+from functools import lru_cache
 
 from field import P, is_word
 
@@ -67,7 +68,8 @@ def row_of_numbers(
     return None
 
 
-def inverses_cancel(diagonal: list[int]) -> bool:
+@lru_cache
+def inverses_cancel(diagonal: tuple[int, ...]) -> bool:
     """Row 9: 1 plus the inverses of all D is 0."""
     total = 1
     for d in diagonal:
@@ -81,7 +83,7 @@ def row_of_words(diagonal: list[int], constants: list[int]) -> int | None:
         return 7
     if 0 in diagonal:
         return 8
-    if inverses_cancel(diagonal):
+    if inverses_cancel(tuple(diagonal)):
         return 9
     return None
 

@@ -5,6 +5,7 @@ The functions above the entries take words of an accepted set. The entries
 ("words", list) or ("refused", r); they change nothing that is lent to them.
 """
 
+from operator import mul
 from typing import Callable
 
 from field import P, SEVENTH_ROOT_EXPONENT, all_words
@@ -23,7 +24,7 @@ M4 = [
 
 def times(matrix: Matrix, words: Words) -> Words:
     """A matrix applied to words: each row times the words, summed."""
-    return [sum(m * w for m, w in zip(row, words)) % P for row in matrix]
+    return [sum(map(mul, row, words)) % P for row in matrix]
 
 
 def add(left: Words, right: Words) -> Words:
@@ -41,9 +42,7 @@ def external_layer(state: Words) -> Words:
     blocks = [times(M4, state[i : i + 4]) for i in range(0, len(state), 4)]
     if len(blocks) == 1:
         return blocks[0]
-    total = [0, 0, 0, 0]
-    for block in blocks:
-        total = add(total, block)
+    total = [sum(words) for words in zip(*blocks)]
     return [word for block in blocks for word in add(block, total)]
 
 
@@ -79,6 +78,26 @@ def cut(words: Words, size: int) -> Matrix:
     return [words[i : i + size] for i in range(0, len(words), size)]
 
 
+Work = Callable[[ParameterSet, Words], Words]
+
+
+def remembered(work: Work) -> Work:
+    """The same function, with its last results kept: most of them are soon asked for again."""
+    results: dict[tuple, Words] = {}
+
+    def recalled(s: ParameterSet, words: Words) -> Words:
+        numbers = (s.width, s.full_rounds, s.partial_rounds)
+        key = (*numbers, *used_diagonal(s), *used_constants(s), *words)
+        if key not in results:
+            if len(results) == 1000:
+                results.clear()
+            results[key] = work(s, words)
+        return list(results[key])
+
+    return recalled
+
+
+@remembered
 def permutation(s: ParameterSet, state: Words) -> Words:
     """Order: M_E; R_F/2 full; R_P partial; R_F/2 full."""
     first, partial, second = round_constants(s)

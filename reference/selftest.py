@@ -9,17 +9,16 @@ import sys
 from collections.abc import Callable, Iterator
 
 import cases
-import collisions
 import field
 import merkle
 import poseidon2
 import program
 import published
-import vectors
+import tree_cases
+import tree_vectors
 from field import P
 from parameters import (
     ParameterSet,
-    arity,
     constant_count,
     leaf_count,
     row_of_set,
@@ -330,7 +329,7 @@ TREE_SHAPES = [
 ]
 
 
-# The cases that the program `vectors` is run on.
+# The cases that the programs `vectors` and `tree_vectors` are run on.
 
 
 def vectors_cases() -> Iterator[Check]:
@@ -342,24 +341,87 @@ def vectors_cases() -> Iterator[Check]:
         state = case.state.numbers(cases.STATE_PLACES)
         kind, answer = poseidon2.permute(case.handed(), state)
         yield f"permute {case}", 0 if kind == "words" else answer, case.row
-    for what, case in cases.trees_cases():
-        if what == cases.CALLS:
-            called, (_, row) = vectors.calls_of(case)
+    yield fitting(cases.SECTIONS)
+
+
+def fitting(sections: list) -> Check:
+    """A program's buffer has 65,536 bytes."""
+    size = sum(len(line) + 1 for line in cases.lines(sections))
+    return "bytes of input", size <= 60000, True
+
+
+def tree_vectors_cases() -> Iterator[Check]:
+    """Each call of the section trees is refused with the rows that it is made for; all fits."""
+    for what, case in tree_cases.trees_cases():
+        if what == tree_cases.CALLS:
+            called, (_, row) = tree_vectors.calls_of(case)
             rows = [row or 0 for row in [*(one for one, _ in called), row]]
             yield f"calls {case}", rows, case.rows
-    # The program's buffer has 65,536 bytes.
-    size = sum(len(line) + 1 for line in cases.lines())
-    yield "bytes of input", size <= 60000, True
+    yield fitting(tree_cases.SECTIONS)
+
+
+def replacements() -> Iterator[Check]:
+    """Each replacement is refused with its row and keeps the store, or does h compressions. In the
+    end the store is what building writes from the book."""
+    for _, case in tree_cases.replacements_cases():
+        s, leaves = case.tree.case.handed(), case.tree.leaves.numbers(tree_cases.TREE_PLACES)
+        (row, store), calls = tree_vectors.called_in_order(case)
+        book = [] if row else merkle.open_book(s, leaves)
+        for call, (answer, after) in zip(case.calls, calls):
+            wanted = ("refused", call.row) if call.row else ("count", s.height)
+            yield f"replace {call} of {case.tree}", answer, wanted
+            if call.row:
+                kept = store[: call.fault - 1] + [call.value] + store[call.fault :]
+                yield f"{call} keeps", after, kept if call.fault else store
+            else:
+                merkle.book_replace(s, book, call.place, call.leaf.numbers(tree_cases.LEAF_PLACES))
+            store = list(after)
+        yield f"store of {case.tree}", store, [7] * 6 if row else built(s, merkle.book_leaves(book))
+
+
+def extractions() -> Iterator[Check]:
+    """Each extraction is refused with its row and keeps both buffers, or gives its level."""
+    for _, one in tree_cases.extractions_cases():
+        answer, first, second = tree_vectors.extracted(one)
+        if one.row:
+            yield f"extract {one}", answer, ("refused", one.row)
+            yield f"{one} keeps", (first, second), tuple([7] * length for length in one.rows)
+        else:
+            yield f"extract {one}", answer, ("level", one.level)
+            yield from collision(one, first, second)
+
+
+def collision(one: tree_cases.Extraction, first: list[int], second: list[int]) -> Iterator[Check]:
+    """Both openings are accepted and the leaves differ. The rows are those of the level, differ and
+    compress alike; below it they compress differently."""
+    s = one.case.handed()
+    root, leaf, siblings, other, other_siblings = one.handed()
+    rows, end = merkle.verdict_rows(s, one.place, leaf, siblings)
+    others, other_end = merkle.verdict_rows(s, one.place, other, other_siblings)
+    yield "accepted", (end, other_end), (root, root)
+    yield "leaves differ", leaf != other, True
+    yield "rows", (first, second), (rows[one.level], others[one.level])
+    yield "rows differ", first != second, True
+    nodes = [[poseidon2.compression(s, row) for row in pair] for pair in zip(rows, others)]
+    alike = [a == b for a, b in nodes]
+    yield "the lowest level", alike[: one.level + 1], [False] * one.level + [True]
+
+
+SeededTree = tuple[str, ParameterSet, list[int], list[int]]
+
+
+def seeded_trees(rng: random.Random, partial: int) -> Iterator[SeededTree]:
+    """A name, a set, leaves and their store, for every shape."""
+    for width, node_size, height in TREE_SHAPES:
+        s = seeded_set(rng, width, node_size, height, 2, partial)
+        leaves = seeded_words(rng, merkle.leaves_length(s))
+        yield f"t={width}, l={node_size}, h={height}", s, leaves, built(s, leaves)
 
 
 def trees() -> Iterator[Check]:
     """Building, storeless root, openings and verdicts agree on every shape."""
-    rng = random.Random(3)
-    for width, node_size, height in TREE_SHAPES:
-        s = seeded_set(rng, width, node_size, height, 2, 1)
-        name = f"t={width}, l={node_size}, h={height}"
-        leaves = seeded_words(rng, merkle.leaves_length(s))
-        store = built(s, leaves)
+    for name, s, leaves, store in seeded_trees(random.Random(3), 1):
+        node_size, height = s.node_size, s.height
         root = store[-node_size:]
         yield name + " leaves", store[: len(leaves)], leaves
         yield name + " root", merkle.root(s, store), ("words", root)
@@ -389,11 +451,7 @@ def run_on(s: ParameterSet, leaves: list[int]) -> str:
 def leaf_book() -> Iterator[Check]:
     """After a list of calls, the store is what building writes from the book."""
     rng = random.Random(4)
-    for width, node_size, height in TREE_SHAPES:
-        s = seeded_set(rng, width, node_size, height, 2, 0)
-        name = f"t={width}, l={node_size}, h={height}"
-        leaves = seeded_words(rng, merkle.leaves_length(s))
-        store = built(s, leaves)
+    for name, s, leaves, store in seeded_trees(rng, 0):
         book = merkle.open_book(s, leaves)
         answers = [seeded_call(rng, s, store, book) for _ in range(12)]
         yield name + " answers", [a for a, _ in answers], [b for _, b in answers]
@@ -485,55 +543,6 @@ def tree_refusals() -> Iterator[Check]:
     yield "push changed nothing", lent, store
 
 
-def extractor() -> Iterator[Check]:
-    """The extractor on known collisions, and its refusals."""
-    s = accepted(
-        collisions.WIDTH,
-        collisions.NODE_SIZE,
-        collisions.HEIGHT,
-        collisions.FULL_ROUNDS,
-        collisions.PARTIAL_ROUNDS,
-        collisions.DIAGONAL,
-        collisions.CONSTANTS,
-    )
-    store = built(s, collisions.LEAVES)
-    root, place = store[-1:], collisions.PLACE
-    own = ([collisions.LEAVES[place]], opened(s, store, place))
-    for level, siblings in collisions.OFFERED:
-        other = (collisions.OTHER_LEAF, siblings)
-        got = merkle.verify(s, root, place, *other)
-        yield f"offered {siblings}", got, ("accepted", None)
-        for first, second in ((other, own), (own, other)):
-            a, b = [9] * 4, [9] * 4
-            got = merkle.extract(s, root, place, *first, *second, a, b)
-            yield "level", got, ("level", level)
-            yield "rows differ", a != b, True
-            l = s.node_size
-            yield "rows compress alike", poseidon2.compress(s, a, l), poseidon2.compress(s, b, l)
-            at = place // arity(s) ** level % arity(s)
-            others = a[:at] + a[at + 1 :]
-            yield "first row", others, first[1][3 * level : 3 * level + 3]
-            others = b[:at] + b[at + 1 :]
-            yield "second row", others, second[1][3 * level : 3 * level + 3]
-    a, b = [9] * 4, [9] * 4
-    wrong = (collisions.OTHER_LEAF, own[1])
-    cases = [
-        ("first rejected", (root, place, *wrong, *own, a, b), 14),
-        ("second rejected", (root, place, *own, *wrong, a, b), 14),
-        ("equal leaves, rejected", (root, place, *wrong, *wrong, a, b), 14),
-        ("equal leaves", (root, place, *own, *own, a, b), 15),
-        ("a word", (root, place, [P], own[1], *own, a, b), 12),
-        ("place", (root, 16, [P], own[1], *own, a, b), 11),
-        ("buffer", (root, 16, [P], own[1], *own, a, b + [9]), 10),
-        ("root", (root * 2, 16, [P], own[1], *own, a, b), 10),
-        ("leaf", (root, 16, [P, P], own[1], *own, a, b), 10),
-        ("siblings", (root, 16, *own, own[0], own[1][1:], a, b), 10),
-    ]
-    for name, arguments, row in cases:
-        yield name, merkle.extract(s, *arguments), ("refused", row)
-    yield "buffers kept", (a, b), ([9] * 4, [9] * 4)
-
-
 def program_refusals() -> Iterator[Check]:
     """The root program's rows, the byte count first."""
     whole = program_input(T_NUMBERS + [1, 0, 0, 0])
@@ -573,10 +582,12 @@ GROUPS = [
     ("handed sets", handed_sets),
     ("inverse permutations", inverse_permutations),
     ("vectors' cases", vectors_cases),
+    ("tree_vectors' cases", tree_vectors_cases),
+    ("replacements", replacements),
+    ("extractions", extractions),
     ("trees", trees),
     ("leaf book", leaf_book),
     ("tree refusals", tree_refusals),
-    ("extractor", extractor),
     ("program refusals", program_refusals),
 ]
 

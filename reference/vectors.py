@@ -91,27 +91,6 @@ answer: in full, for what permute left; as digests, for the state. Each is one o
 The last word is `back` where unpermute of what permute left is the state and
 permute of what unpermute left is the state (so also where they are refused and
 leave the state), otherwise `lost`.
-
-SECTION trees
-
-Its header line is `section trees`. Sets and buffers are as in the section
-states, and an answer A of an entry that writes to a buffer is given as there;
-before the call every number of a tree's buffers is 7. A tree is a line, and a
-line for each place that is asked for:
-
-    T L H F R build A root B storeless_root C
-    place Q open A verify V damaged X Y
-
-where B is the root of the built store and C the root of the leaves, both in
-full. V is the verdict on that root, the place Q, its leaf (words of 0 where
-there is none) and the siblings that open left: `accepted`, `rejected` or
-`refused N`. Of the verdicts with one word of root, leaf and siblings replaced
-by itself plus 1 modulo p, each word in turn, X are accepted and Y rejected.
-A call of each entry on the lists that the input holds is a line
-
-    T L H F R build A root B storeless_root C open D verify V
-
-with digests.
 """
 
 import signal
@@ -119,9 +98,8 @@ from collections.abc import Callable, Iterator
 
 import cases
 import field
-import merkle
 import poseidon2
-from cases import Calls, Case, Tree
+from cases import Case
 from field import P
 from generator import drawn_numbers
 from parameters import ParameterSet, validate
@@ -289,108 +267,25 @@ def states_section() -> Iterator[str]:
         yield states_line(what, case)
 
 
-def written(entry: Callable, s: ParameterSet, *arguments: object) -> Called:
-    """An entry that writes to its last argument."""
-    *others, before = arguments
-    after = list(before)
-    kind, row = entry(s, *others, after)
-    return (row if kind == "refused" else None, after)
-
-
-def node_of(entry: Callable, s: ParameterSet, words: list[int], node: list[int]) -> Called:
-    """An entry that answers a root, as one that writes it to a node."""
-    kind, answer = entry(s, words)
-    if kind == "refused" and answer != 12:
-        return (answer, node)
-    if len(node) != s.node_size:
-        return (10, node)
-    return (answer, node) if kind == "refused" else (None, answer)
-
-
-def verdict(kind: str, row: int | None) -> str:
-    """A verdict's words."""
-    return f"refused {row}" if kind == "refused" else kind
-
-
-def damaged_verdicts(s: ParameterSet, place: int, words: list[int]) -> list[str]:
-    """The kinds of verdict on a root, a leaf and siblings in a row, each word damaged in turn."""
-    l = s.node_size
-    kinds = []
-    for i, word in enumerate(words):
-        other = words[:i] + [(word + 1) % P] + words[i + 1 :]
-        kinds.append(merkle.verify(s, other[:l], place, other[l : 2 * l], other[2 * l :])[0])
-    return kinds
-
-
-def tree_lines(what: int, tree: Tree) -> Iterator[str]:
-    """A tree's line, and its places'."""
-    shown = in_full if what == cases.TREE_IN_FULL else as_digest
-    s, leaves = tree.case.handed(), tree.leaves.numbers(cases.TREE_PLACES)
-    l = s.node_size
-    built = written(merkle.build, s, leaves, [7] * tree.store)
-    root = node_of(merkle.root, s, built[1], [7] * l)
-    storeless = node_of(merkle.storeless_root, s, leaves, [7] * l)
-    parts = ["build", shown(built), "root", in_full(root)]
-    yield case_line(tree.case, *parts, "storeless_root", in_full(storeless))
-    for place in range(tree.places):
-        opened = written(merkle.opening, s, built[1], place, [7] * tree.siblings)
-        leaf = leaves[place * l : (place + 1) * l] or [0] * l
-        answer = merkle.verify(s, root[1], place, leaf, opened[1])
-        kinds = damaged_verdicts(s, place, root[1] + leaf + opened[1])
-        counts = f"{kinds.count('accepted')} {kinds.count('rejected')}"
-        yield f"place {place} open {shown(opened)} verify {verdict(*answer)} damaged {counts}"
-
-
-def calls_of(calls: Calls) -> tuple[list[Called], tuple]:
-    """What the five entries answer."""
-    s = calls.case.handed()
-    leaves, store, siblings, root, leaf = (
-        calls.lists[name].numbers(cases.TREE_PLACES) for name in cases.HELD
-    )
-    written_to = [
-        written(merkle.build, s, leaves, store),
-        node_of(merkle.root, s, store, root),
-        node_of(merkle.storeless_root, s, leaves, root),
-        written(merkle.opening, s, store, calls.place, siblings),
-    ]
-    return (written_to, merkle.verify(s, root, calls.place, leaf, siblings))
-
-
-def calls_line(calls: Calls) -> str:
-    """The line of a call of each entry."""
-    called, answer = calls_of(calls)
-    names = ["build", "root", "storeless_root", "open"]
-    parts = [part for name, one in zip(names, called) for part in (name, as_digest(one))]
-    return case_line(calls.case, *parts, "verify", verdict(*answer))
-
-
-def trees_section() -> Iterator[str]:
-    """Section trees."""
-    for what, case in cases.trees_cases():
-        if what == cases.CALLS:
-            yield calls_line(case)
-        else:
-            yield from tree_lines(what, case)
-
+Section = tuple[str, Callable[[], Iterator[str]]]
 
 # A later section is one more function here, and its description above.
 SECTIONS = [
     ("field", field_section),
     ("sets", sets_section),
     ("states", states_section),
-    ("trees", trees_section),
 ]
 
 
-def lines() -> Iterator[str]:
-    """Every line of the output."""
-    for name, section in SECTIONS:
-        yield f"section {name}"
-        yield from section()
+def print_sections(sections: list[Section]) -> None:
+    """Every line of a program's output."""
+    # End quietly when the reader of the output has had enough of it.
+    signal.signal(signal.SIGPIPE, signal.SIG_DFL)
+    for name, section in sections:
+        print(f"section {name}")
+        for line in section():
+            print(line)
 
 
 if __name__ == "__main__":
-    # End quietly when the reader of the output has had enough of it.
-    signal.signal(signal.SIGPIPE, signal.SIG_DFL)
-    for line in lines():
-        print(line)
+    print_sections(SECTIONS)

@@ -1,5 +1,8 @@
-// What the program `vectors` reads and writes by: lines of text, the numbers of its input, drawn numbers, and lists of them.
+// What the programs `vectors` and `tree_vectors` read and write by: lines of text, the numbers of their input, drawn numbers, lists of
+// them, sets, and answers.
+pub mod answers;
 pub mod generator;
+pub mod handed;
 pub mod input;
 pub mod lists;
 pub mod output;

@@ -1,7 +1,6 @@
 // The cases of the program's input, a line each. The module docstring of reference/cases.py has the input's grammar.
 use crate::sets_section;
 use crate::states_section;
-use crate::trees_section;
 use harness::input;
 use harness::output;
 
@@ -10,8 +9,7 @@ fn header(input: &[u8], at: usize) -> usize {
     let which = section.value;
     match which {
         0 => output::text(b"section sets\n"),
-        1 => output::text(b"section states\n"),
-        _ => output::text(b"section trees\n"),
+        _ => output::text(b"section states\n"),
     }
     section.next
 }
@@ -24,10 +22,7 @@ fn line(input: &[u8], at: usize) -> usize {
         0 => header(input, first.next),
         1 => sets_section::case(input, first.next),
         2 => states_section::case(true, input, first.next),
-        3 => states_section::case(false, input, first.next),
-        4 => trees_section::tree(true, input, first.next),
-        5 => trees_section::tree(false, input, first.next),
-        _ => trees_section::calls(input, first.next),
+        _ => states_section::case(false, input, first.next),
     }
 }
 

@@ -3,7 +3,6 @@
 mod cases;
 mod sets_section;
 mod states_section;
-mod trees_section;
 
 use libc::STDIN_FILENO;
 

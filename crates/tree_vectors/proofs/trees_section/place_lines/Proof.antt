@@ -1,7 +1,7 @@
 use Prim.Native.Nat.{_≤_, _-_}
 use borrow.Author.Needs.{needs}
-use Rattle.vectors.proofs.trees_section.place_lines.Statement.{statement}
-use Rattle.vectors.proofs.trees_section.place_lines.Tie as tie
+use Rattle.tree_vectors.proofs.trees_section.place_lines.Statement.{statement}
+use Rattle.tree_vectors.proofs.trees_section.place_lines.Tie as tie
 
 abbrev Inv-loop : tie.InvT-loop
 Inv-loop manner set leaves store root siblings places at₀ place₀ at place = place ≤ places

@@ -2,8 +2,8 @@ use lib.Seq.{length-take-le}
 use mathlib.Core.Path.{sym}
 use native.Mathlib.Omega.{arith}
 use borrow.Author.Needs.{needs}
-use Rattle.vectors.proofs.trees_section.entry_to_part.Statement.{statement}
-use Rattle.vectors.proofs.trees_section.entry_to_part.Tie as tie
+use Rattle.tree_calls.proofs.entries.entry_to_part.Statement.{statement}
+use Rattle.tree_calls.proofs.entries.entry_to_part.Tie as tie
 
 slice-relend-prefix-entry-to : tie.Need-slice-relend-prefix-entry-to
 slice-relend-prefix-entry-to c = search needs

@@ -1,7 +1,7 @@
 use Prim.Native.Nat.{_≤_, _-_}
 use borrow.Author.Needs.{needs}
-use Rattle.vectors.proofs.trees_section.damaged_verdicts.Statement.{statement}
-use Rattle.vectors.proofs.trees_section.damaged_verdicts.Tie as tie
+use Rattle.tree_vectors.proofs.trees_section.damaged_verdicts.Statement.{statement}
+use Rattle.tree_vectors.proofs.trees_section.damaged_verdicts.Tie as tie
 
 abbrev Inv-loop : tie.InvT-loop
 Inv-loop set place words count node-size accepted₀ rejected₀ i₀ accepted rejected i = i ≤ count
