@@ -13,6 +13,8 @@ pub use field_entries::seventh_root;
 pub use field_entries::sum;
 pub use parameters::ParameterSet;
 pub use parameters::Validation;
+pub use pushes::Record;
+pub use pushes::push;
 pub use state_entries::Outcome;
 pub use state_entries::compress;
 pub use state_entries::permute;

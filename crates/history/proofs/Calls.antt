@@ -1,0 +1,126 @@
+-- A call on the store built from the book's leaves answers as the book does, and leaves the store built from the book's leaves after it.
+use mathlib.Core.Path.{_≡_, refl, sym, ap, ap₂, _∙_}
+use mathlib.Core.Bool.{Bool, true, false, not, _&&_}
+use mathlib.Core.List.{List, [], _∷_, _++_}
+use Prim.Native.Nat.{ℕ, suc, _+_, _*_}
+use lib.ListN.{length}
+use borrow.Author.Tests.{eq-eqb}
+use Rattle.modular.specs.Arithmetic.{allWords}
+use Rattle.modular.specs.Goldilocks.{p}
+use Rattle.modular.proofs.Words.{words-append}
+use Rattle.refusals.specs.Table.{TableRow, row, notWords, firstRow, Reply, reply, after}
+use Rattle.refusals.proofs.Table.{numbered-append}
+use Rattle.refusals.proofs.LengthsPlacesAndWords as three
+use Rattle.parameters.specs.declared.ParameterSet.{ParameterSet}
+use Rattle.parameters.specs.ParameterSet.{setRows}
+use Rattle.parameters.proofs.Accepted.{set-numbered}
+use Rattle.merkle.specs.Openings.{opening}
+use Rattle.merkle.specs.Statements.{Replaced, Proper, Pushed}
+use Rattle.tree_entries.specs.Trees.{treeOf, leafCount, storeWords, has, noPlace}
+use Rattle.tree_entries.proofs.AcceptedTrees.{laws}
+use Rattle.change_entries.specs.Replacement.{replaceRows, replaceReply, replaced}
+use Rattle.change_entries.specs.Replacement as entry
+use Rattle.pushes.specs.declared.record.Record.{Record}
+use Rattle.pushes.specs.Pushes.{changesOf, placesBelow, usedWords, fewRecords, pushRows, pushing, pushReply, pushed}
+use Rattle.history.specs.LeafBook.{Call, replacement, push, bookRows, bookCount, bookReply, entered, bookAfter}
+use Rattle.history.specs.History.{callReply, callStore}
+use Rattle.history.specs.Demand3.{SixWords}
+use Rattle.history.proofs.Replies.{same-reply, after-through}
+use Rattle.history.proofs.Sets.{storeOf, Leaves, words, store-long, store-words}
+use Rattle.history.proofs.Book.{book-numbered, changed-entered, Good, good, Fit, fit, leaf-fits, first-inside, rest-fits, replacement-leaves, push-leaves}
+
+-- a list that ends in words is one of words where its beginning is
+words-end : (xs ys : List ℕ) → allWords p ys ≡ true → allWords p (xs ++ ys) ≡ allWords p xs
+words-end xs ys e = go (allWords p xs) refl
+  where
+    go : (b : Bool) → allWords p xs ≡ b → allWords p (xs ++ ys) ≡ allWords p xs
+    go true f = words-append p xs ys f e ∙ sym f
+    go false f = three.left-not-words p xs ys f ∙ sym f
+
+-- so a store of the right length that holds words leaves an entry's rows to the call's other arguments
+without-store : (front : List TableRow) (long rest : Bool) (place : TableRow) (xs ys : List ℕ) → long ≡ true → allWords p ys ≡ true
+    → front ++ (row 10 (not (long && rest)) ∷ place ∷ notWords p (xs ++ ys) ∷ []) ≡ front ++ (row 10 (not rest) ∷ place ∷ notWords p xs ∷ [])
+unfolding notWords
+without-store front long rest place xs ys e w =
+    let f : (long && rest) ≡ rest = rw e in
+    ap₂ (λ (a b : Bool). front ++ (row 10 (not a) ∷ place ∷ row 12 (not b) ∷ [])) f (words-end xs ys w)
+
+-- what a call and the book agree on
+pub record Follows (s : ParameterSet) (c : Call) (xs : List ℕ) : Type 0 where
+  pub answers : callReply p s c (storeOf s xs) ≡ bookReply p s c
+  pub store : callStore p s c (storeOf s xs) ≡ storeOf s (bookAfter p s c xs)
+  pub leaves : Leaves s (bookAfter p s c xs)
+
+module _ (s : ParameterSet) (valid : firstRow (setRows p s) ≡ 0) where
+  -- an entry whose rows are the set's and then the book's
+  module _ (c : Call) (xs : List ℕ) (L : Leaves s xs) where
+    agreed : (rows : List TableRow) (made : ℕ) → rows ≡ setRows p s ++ bookRows p s c → (firstRow (bookRows p s c) ≡ 0 → made ≡ bookCount p s c)
+        → reply rows (made ∷ []) ≡ bookReply p s c
+    unfolding bookReply
+    agreed rows made e f =
+        ap (λ (r : List TableRow). reply r (made ∷ [])) e
+        ∙ same-reply (setRows p s) (bookRows p s c) (made ∷ []) (bookCount p s c ∷ []) (set-numbered p s) valid (book-numbered s c) (numbered-append (set-numbered p s) (book-numbered s c))
+        (λ z. ap (λ (n : ℕ). n ∷ []) (f z))
+
+    left : (r : Reply) (new : List ℕ) → r ≡ bookReply p s c → (firstRow (bookRows p s c) ≡ 0 → new ≡ storeOf s (entered p s c xs))
+        → after r (storeOf s xs) new ≡ storeOf s (bookAfter p s c xs)
+    unfolding bookAfter bookReply
+    left r new e f =
+        ap (λ (a : Reply). after a (storeOf s xs) new) e
+        ∙ after-through (storeOf s) (bookRows p s c) (bookCount p s c ∷ []) xs (entered p s c xs) new (book-numbered s c) f
+
+  -- ---- one replacement
+  module _ (xs : List ℕ) (L : Leaves s xs) (q : ℕ) (leaf : List ℕ) where
+    work : Good s q leaf → Replaced (treeOf p s) (s .height) q xs leaf
+    work g = laws s valid .replaced (s .height) q xs leaf (L .long) (g .inside) (g .long)
+
+    pub replacement-follows : Follows s (replacement q leaf) xs
+    unfolding callReply callStore bookRows bookCount entered replaceRows replaceReply replaced
+    replacement-follows =
+        let c : Call = replacement q leaf in
+        let S = treeOf p s in
+        let rows : replaceRows p s (storeOf s xs) q leaf ≡ setRows p s ++ bookRows p s c =
+        without-store (setRows p s) (has (storeOf s xs) (storeWords p s)) (has leaf (s .«node_size»)) (noPlace p s q) leaf (opening S (s .height) q (storeOf s xs))
+        (eq-eqb (length (storeOf s xs)) (storeWords p s) (store-long s valid xs L))
+        (words s valid .opened (s .height) q (storeOf s xs) (store-words s valid xs L)) in
+        let answer = agreed c xs L (replaceRows p s (storeOf s xs) q leaf) (entry.replacement p s (storeOf s xs) q leaf .made) rows (λ z. work (good s q leaf z) .counted) in
+        record {
+          answers = answer;
+          store = left c xs L (replaceReply p s (storeOf s xs) q leaf) (entry.replacement p s (storeOf s xs) q leaf .store) answer (λ z. work (good s q leaf z) .stored);
+          leaves = replacement-leaves s valid xs L q leaf;
+        }
+
+  -- ---- a push
+
+  proper : (rs : List Record) → Fit s rs → Proper (treeOf p s) (s .height) (changesOf (s .«node_size») rs)
+  unfolding changesOf
+  proper [] F = tt
+  proper (r ∷ rs) F = (first-inside s valid r rs F, leaf-fits s valid r (F .sixes .0), proper rs (rest-fits s valid r rs F))
+
+  length-changes : (rs : List Record) → length (changesOf (s .«node_size») rs) ≡ length rs
+  unfolding changesOf
+  length-changes [] = refl
+  length-changes (r ∷ rs) = ap suc (length-changes rs)
+
+  module _ (xs : List ℕ) (L : Leaves s xs) (rs : List Record) (sixes : SixWords rs) where
+    works : Fit s rs → Pushed (treeOf p s) (s .height) (changesOf (s .«node_size») rs) xs
+    works F = laws s valid .pushed (s .height) (changesOf (s .«node_size») rs) xs (L .long) (proper rs F)
+
+    pub push-follows : Follows s (push rs) xs
+    unfolding callReply callStore bookRows bookCount entered pushRows pushReply pushed
+    push-follows =
+        let c : Call = push rs in
+        let S = treeOf p s in
+        let rows : pushRows p s (storeOf s xs) rs ≡ setRows p s ++ bookRows p s c =
+        without-store (setRows p s) (has (storeOf s xs) (storeWords p s)) (fewRecords rs) (row 11 (not (placesBelow (leafCount p s) rs))) (usedWords (s .«node_size») rs) (storeOf s xs)
+        (eq-eqb (length (storeOf s xs)) (storeWords p s) (store-long s valid xs L))
+        (store-words s valid xs L) in
+        let answer = agreed c xs L (pushRows p s (storeOf s xs) rs) (pushing p s (storeOf s xs) rs .made) rows
+        (λ z. works (fit s rs sixes z) .counted ∙ ap (λ (n : ℕ). s .height * n) (length-changes rs)) in
+        record {
+          answers = answer;
+          store =
+              left c xs L (pushReply p s (storeOf s xs) rs) (pushing p s (storeOf s xs) rs .store) answer
+              (λ z. works (fit s rs sixes z) .stored ∙ ap (storeOf s) (changed-entered s valid rs xs));
+          leaves = push-leaves s valid xs L rs sixes;
+        }

@@ -1,0 +1,88 @@
+-- The tree of a set that no row turns down, and the leaves of a book: k^h leaves of words.
+use mathlib.Core.Path.{_≡_, sym, ap}
+use mathlib.Core.Bool.{true, not, _&&_}
+use mathlib.Core.List.{List, []}
+use Prim.Native.Nat.{ℕ, _*_, _≤_, _<_}
+use native.Mathlib.Omega.{arith}
+use lib.ListN.{length}
+use borrow.Author.Tests.{eq-eqb}
+use Rattle.modular.specs.Arithmetic.{allWords}
+use Rattle.modular.specs.Goldilocks.{p}
+use Rattle.modular.proofs.Words.{and-true}
+use Rattle.refusals.specs.Table.{firstRow, done}
+use Rattle.refusals.proofs.Table.{reply-done, written-after}
+use Rattle.refusals.proofs.LengthsAndWords as two
+use Rattle.parameters.specs.declared.ParameterSet.{ParameterSet}
+use Rattle.parameters.specs.ParameterSet.{setRows}
+use Rattle.parameters.proofs.Accepted.{set-numbered}
+use Rattle.merkle.specs.Levels.{KeepsWords, build}
+use Rattle.merkle.specs.Statements.{WordLaws}
+use Rattle.merkle.proofs.Lists.{words-part, length-part}
+use Rattle.merkle.proofs.Levels.{fits}
+use Rattle.merkle.proofs.Statements.{word-laws}
+use Rattle.trees.proofs.Shapes.{keeps-words, node-small}
+use Rattle.tree_entries.specs.Trees.{treeOf, leafCount, leafWords, storeWords, has, buildRows, buildReply, built}
+use Rattle.tree_entries.proofs.AcceptedTrees.{valid-numbers, shape-regular, laws, build-numbered, build-passed}
+use Rattle.history.specs.LeafBook.{leafAt}
+use Rattle.history.proofs.Replies.{reply-none}
+
+module _ (s : ParameterSet) (valid : firstRow (setRows p s) ≡ 0) where
+  -- "each a place and six words, of which the first l are the leaf"
+  pub six : s .«node_size» ≤ 6
+  six = node-small (valid-numbers s valid)
+
+  pub keeps : KeepsWords p (treeOf p s)
+  keeps = keeps-words (valid-numbers s valid) (s .diagonal) (s .constants)
+
+  pub words : WordLaws p (treeOf p s)
+  words = word-laws (treeOf p s) (shape-regular s valid) p keeps
+
+-- the store that building writes from a list of leaves
+abbrev pub storeOf : ParameterSet → List ℕ → List ℕ
+storeOf s xs = build (treeOf p s) (s .height) xs
+
+-- what a list of leaves is
+pub record Leaves (s : ParameterSet) (xs : List ℕ) : Type 0 where
+  pub long : length xs ≡ leafWords p s
+  pub wordy : allWords p xs ≡ true
+
+-- a store that building wrote with no number returned
+pub record Begun (s : ParameterSet) (leaves store : List ℕ) : Type 0 where
+  pub set : firstRow (setRows p s) ≡ 0
+  pub given : Leaves s leaves
+  pub written : built p s leaves store ≡ storeOf s leaves
+
+pub begun : (s : ParameterSet) (leaves store : List ℕ) → buildReply p s leaves store ≡ done [] → Begun s leaves store
+unfolding buildReply buildRows built
+begun s leaves store e =
+    let z = reply-none (buildRows p s leaves store) [] [] e in
+    let B = build-passed s leaves store z in
+    let P = two.passed p (setRows p s) (set-numbered p s) (not (has leaves (leafWords p s) && has store (storeWords p s))) leaves z in
+    record {
+      set = B .set;
+      given = record { long = B .leaves-long; wordy = P .words };
+      written = sym (written-after store (storeOf s leaves) e);
+    }
+
+module _ (s : ParameterSet) (valid : firstRow (setRows p s) ≡ 0) (xs : List ℕ) (L : Leaves s xs) where
+  pub store-long : length (storeOf s xs) ≡ storeWords p s
+  store-long = laws s valid .building (s .height) xs (L .long) .isStore .whole
+
+  pub store-words : allWords p (storeOf s xs) ≡ true
+  store-words = words s valid .built (s .height) xs (L .long) (L .wordy)
+
+  -- building writes it into any store of the exact length
+  pub builds : (lent : List ℕ) → length lent ≡ storeWords p s → buildReply p s xs lent ≡ done []
+  unfolding buildReply buildRows
+  builds lent e =
+      reply-done (buildRows p s xs lent) [] (build-numbered s xs lent)
+      (two.at-none p (setRows p s) (set-numbered p s) (not (has xs (leafWords p s) && has lent (storeWords p s))) xs valid
+      (ap not (and-true (has xs (leafWords p s)) (has lent (storeWords p s)) (eq-eqb (length xs) (leafWords p s) (L .long)) (eq-eqb (length lent) (storeWords p s) e)))
+      (L .wordy))
+
+  pub leaf-long : (q : ℕ) → q < leafCount p s → length (leafAt s q xs) ≡ s .«node_size»
+  leaf-long q b =
+      length-part (q * s .«node_size») (s .«node_size») xs (omega (arith, fits (s .«node_size») (leafCount p s) q b, L .long))
+
+  pub leaf-words : (q : ℕ) → allWords p (leafAt s q xs) ≡ true
+  leaf-words q = words-part p (q * s .«node_size») (s .«node_size») xs (L .wordy)

@@ -1,0 +1,79 @@
+-- The consequences, from demand 3 alone: nothing here looks into a call.
+use mathlib.Core.Path.{_≡_, sym, ap, ap₂, _∙_}
+use mathlib.Core.Bool.{not}
+use mathlib.Core.List.{List, [], _∷_}
+use Prim.Native.Nat.{ℕ, _^_}
+use lib.Dec.{ltb}
+use lib.ListN.{length, replicate, length-replicate}
+use borrow.Author.Tests.{eq-eqb, le-leb, lt-ltb}
+use Rattle.modular.specs.Goldilocks.{p}
+use Rattle.refusals.specs.Table.{firstRow, Reply, done}
+use Rattle.refusals.proofs.Table.{none, reply-done}
+use Rattle.refusals.proofs.LengthsPlacesAndWords as three
+use Rattle.parameters.specs.declared.ParameterSet.{ParameterSet}
+use Rattle.tree_entries.specs.Trees.{leafCount, storeWords, openingWords, has, built, opened, verifyReply}
+use Rattle.tree_entries.proofs.AcceptedTrees.{laws}
+use Rattle.pushes.specs.Pushes.{placesBelow, usedWords, fewRecords}
+use Rattle.history.specs.LeafBook.{Call, replacement, push, leafAt, bookRows, bookCount, bookReply, bookLeaves, bookAnswers}
+use Rattle.history.specs.History.{run}
+use Rattle.history.specs.Demand3.{rootOf}
+use Rattle.history.specs.Uses.{RootOfBook, Counts, OwnAccepted, OtherCollides, OnlyAccepted, Uses}
+use Rattle.history.proofs.Sets.{begun}
+use Rattle.history.proofs.Replies.{no-row}
+use Rattle.history.proofs.Book.{book-numbered}
+use Rattle.history.proofs.Demand3.{demand3}
+
+-- buffers to hand over
+abbrev zeros : ℕ → List ℕ
+zeros n = replicate n 0
+
+zeros-long : (n : ℕ) → length (zeros n) ≡ n
+zeros-long n = length-replicate n 0
+
+root-of-book : RootOfBook
+root-of-book s leaves lent e calls T =
+    let written = demand3 s leaves lent e calls T .stored (zeros (storeWords p s)) (zeros-long (storeWords p s)) in
+    let B = begun s (bookLeaves p s calls leaves) (zeros (storeWords p s)) (written .0) in
+    ap (rootOf s) (written .1 ∙ B .written) ∙ sym (laws s (B .set) .storeless .agrees (s .height) (bookLeaves p s calls leaves) (B .given .long))
+
+-- what the book answers where no row applies
+counted : (s : ParameterSet) (c : Call) → firstRow (bookRows p s c) ≡ 0 → bookReply p s c ≡ done (bookCount p s c ∷ [])
+unfolding bookReply
+counted s c z = reply-done (bookRows p s c) (bookCount p s c ∷ []) (book-numbered s c) z
+
+counts : Counts
+unfolding bookAnswers bookRows bookCount
+counts s leaves lent e rs sixes few places used q leaf long inside wordy =
+    let a : firstRow (bookRows p s (push rs)) ≡ 0 =
+    three.at-words p [] none (not (fewRecords rs)) (not (placesBelow (leafCount p s) rs)) (usedWords (s .«node_size») rs) no-row (ap not (le-leb (length rs) (2 ^ 32) few)) (ap not places)
+    ∙ three.no-twelve p (usedWords (s .«node_size») rs) used in
+    let b : firstRow (bookRows p s (replacement q leaf)) ≡ 0 =
+    three.at-words p [] none (not (has leaf (s .«node_size»))) (not (ltb q (leafCount p s))) leaf no-row (ap not (eq-eqb (length leaf) (s .«node_size») long)) (ap not (lt-ltb q (leafCount p s) inside))
+    ∙ three.no-twelve p leaf wordy in
+    demand3 s leaves lent e (push rs ∷ replacement q leaf ∷ []) (sixes, tt) .answered
+    ∙ ap₂ (λ (x y : Reply). x ∷ y ∷ []) (counted s (push rs) a) (counted s (replacement q leaf) b)
+
+own-accepted : OwnAccepted
+own-accepted s leaves lent e calls T q inside buffer long =
+    ap (λ (top : List ℕ). verifyReply p s top q (leafAt s q (bookLeaves p s calls leaves)) (opened p s (run p s calls (built p s leaves lent) .store) q buffer)) (sym (root-of-book s leaves lent e calls T))
+    ∙ demand3 s leaves lent e calls T .own q inside buffer long .1
+
+other-collides : OtherCollides
+other-collides s leaves lent e calls T q inside leaf siblings n v =
+    let C = demand3 s leaves lent e calls T .other q inside (zeros (openingWords p s)) (zeros-long (openingWords p s)) leaf siblings n
+    (zeros (s .width)) (zeros (s .width)) (zeros-long (s .width)) (zeros-long (s .width)) .0 v in
+    record { first = _; second = _; rows = C .rows; differ = C .differ; alike = C .alike }
+
+only-accepted : OnlyAccepted
+only-accepted s leaves lent e calls T q inside leaf siblings n unaccepted buffer first second lb lf ls C =
+    unaccepted (demand3 s leaves lent e calls T .other q inside buffer lb leaf siblings n first second lf ls .1 C)
+
+pub uses : Uses
+uses =
+    record {
+      root = root-of-book;
+      counts = counts;
+      own = own-accepted;
+      other = other-collides;
+      only = only-accepted;
+    }

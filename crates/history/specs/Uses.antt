@@ -1,0 +1,78 @@
+-- What demand 3 is for: a consequence of each of its parts.
+use mathlib.Core.Path.{_≡_}
+use mathlib.Core.Logic.{_≢_}
+use mathlib.Core.Bool.{true}
+use mathlib.Core.List.{List, [], _∷_}
+use Prim.Native.Nat.{ℕ, _*_, _^_, _≤_, _<_}
+use lib.ListN.{length}
+use Rattle.modular.specs.Arithmetic.{allWords}
+use Rattle.modular.specs.Goldilocks.{p}
+use Rattle.refusals.specs.Table.{done}
+use Rattle.parameters.specs.declared.ParameterSet.{ParameterSet}
+use Rattle.merkle.specs.Storeless.{storelessRoot}
+use Rattle.state_entries.specs.Permutation.{compressUnder}
+use Rattle.tree_entries.specs.Trees.{treeOf, leafCount, openingWords, buildReply, built, opened, verifyReply}
+use Rattle.extraction_entries.specs.Extraction.{pair}
+use Rattle.extraction_entries.specs.Statements.{IsRow, Collides}
+use Rattle.pushes.specs.declared.record.Record.{Record}
+use Rattle.pushes.specs.Pushes.{placesBelow, usedWords}
+use Rattle.history.specs.LeafBook.{Call, replacement, push, leafAt, bookLeaves}
+use Rattle.history.specs.History.{Ran, run}
+use Rattle.history.specs.Demand3.{SixWords, Typed, rootOf}
+
+-- whatever list of calls is done on whatever built store, with what it left and the book's leaves
+abbrev pub AfterCalls : (ParameterSet → Ran → List ℕ → Type 0) → Type 0
+AfterCalls P =
+    (s : ParameterSet) (leaves lent : List ℕ) → buildReply p s leaves lent ≡ done []
+    → (calls : List Call) → Typed calls → P s (run p s calls (built p s leaves lent)) (bookLeaves p s calls leaves)
+
+-- The root is the storeless root of the book's leaves.
+abbrev pub RootOfBook : Type 0
+RootOfBook = AfterCalls (λ s left book. rootOf s (left .store) ≡ storelessRoot (treeOf p s) (s .height) book)
+
+-- A push and a replacement that no row turns back answer h times the number of records, and h.
+abbrev pub Counts : Type 0
+Counts =
+    (s : ParameterSet) (leaves lent : List ℕ) → buildReply p s leaves lent ≡ done []
+    → (rs : List Record) → SixWords rs → length rs ≤ 2 ^ 32 → placesBelow (leafCount p s) rs ≡ true → allWords p (usedWords (s .«node_size») rs) ≡ true
+    → (q : ℕ) (leaf : List ℕ) → length leaf ≡ s .«node_size» → q < leafCount p s → allWords p leaf ≡ true
+    → run p s (push rs ∷ replacement q leaf ∷ []) (built p s leaves lent) .answers ≡ done (s .height * length rs ∷ []) ∷ done (s .height ∷ []) ∷ []
+
+-- Under the storeless root of the book's leaves each of them is accepted, with the opening of its place.
+abbrev pub OwnAccepted : Type 0
+OwnAccepted =
+    AfterCalls (λ s left book.
+    (q : ℕ) → q < leafCount p s → (buffer : List ℕ) → length buffer ≡ openingWords p s
+    → verifyReply p s (storelessRoot (treeOf p s) (s .height) book) q (leafAt s q book) (opened p s (left .store) q buffer) ≡ done (1 ∷ []))
+
+-- two different rows that compress alike
+pub record RowCollision (s : ParameterSet) : Type 0 where
+  pub first : List ℕ
+  pub second : List ℕ
+  pub rows : IsRow s first × IsRow s second
+  pub differ : first ≢ second
+  pub alike : compressUnder p s first ≡ compressUnder p s second
+
+-- Another leaf is accepted at the price of such rows alone.
+abbrev pub OtherCollides : Type 0
+OtherCollides =
+    AfterCalls (λ s left book.
+    (q : ℕ) → q < leafCount p s → (leaf siblings : List ℕ) → leaf ≢ leafAt s q book
+    → verifyReply p s (rootOf s (left .store)) q leaf siblings ≡ done (1 ∷ [])
+    → RowCollision s)
+
+-- Of another leaf that is not accepted the extractor gives no such rows.
+abbrev pub OnlyAccepted : Type 0
+OnlyAccepted =
+    AfterCalls (λ s left book.
+    (q : ℕ) → q < leafCount p s → (leaf siblings : List ℕ) → leaf ≢ leafAt s q book
+    → verifyReply p s (rootOf s (left .store)) q leaf siblings ≢ done (1 ∷ [])
+    → (buffer first second : List ℕ) → length buffer ≡ openingWords p s → length first ≡ s .width → length second ≡ s .width
+    → Collides s (pair (rootOf s (left .store)) q leaf siblings (leafAt s q book) (opened p s (left .store) q buffer)) first second → ⊥)
+
+pub record Uses : Type 0 where
+  pub root : RootOfBook
+  pub counts : Counts
+  pub own : OwnAccepted
+  pub other : OtherCollides
+  pub only : OnlyAccepted

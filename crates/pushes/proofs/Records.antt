@@ -1,0 +1,140 @@
+-- What an accepted set and a tally without refusal give, and what one step keeps.
+use mathlib.Core.Path.{_≡_, refl, sym, ap, _∙_}
+use mathlib.Core.Logic.{_≢_}
+use mathlib.Core.Bool.{Bool, true, false, cond, not, _&&_}
+use mathlib.Core.List.{List, []}
+use Prim.Native.Nat.{ℕ, zero, suc, _+_, _^_, _≤_, _<_}
+use native.Mathlib.Nat.{mul-le-mul-right}
+use native.Mathlib.Omega.{arith}
+use lib.Dec.{lit<, eqb, ltb, leb}
+use lib.ListN.{length}
+use borrow.Author.Tests.{eqb-true, ltb-true}
+use Rattle.modular.specs.Goldilocks.{p}
+use Rattle.modular.specs.Arithmetic.{allWords}
+use Rattle.modular.proofs.Words.{left-true, right-true}
+use Rattle.refusals.specs.Table.{firstRow, row}
+use Rattle.refusals.proofs.Table.{Numbered, none as no-rows, next, numbered-append, row-applies, row-passes, first-front, first-back}
+use Rattle.parameters.specs.declared.ParameterSet.{ParameterSet}
+use Rattle.parameters.specs.ParameterSet.{setRows}
+use Rattle.parameters.proofs.Accepted.{set-numbered}
+use Rattle.merkle.specs.Replacement.{Counted, replaceFrom}
+use Rattle.merkle.proofs.Replacement.{replace-made}
+use Rattle.trees.specs.Shapes.{counted}
+use Rattle.tree_entries.specs.Trees.{treeOf, leafCount, storeWords, has}
+use Rattle.tree_entries.proofs.AcceptedTrees as trees
+use Rattle.pushes.specs.declared.record.Record.{Record}
+use Rattle.pushes.specs.declared.tally.Tally.{Tally}
+use Rattle.pushes.specs.Pushes.{leafOf}
+use Rattle.pushes.specs.Passes.{Pass, pass, Going, earlyRows, begun, beginOf, testOf, mayWrite, wrote, writeOf, stepOf}
+
+-- a leaf is among a record's six words
+pub leaf-in-record : (s : ParameterSet) → firstRow (setRows p s) ≡ 0 → s .«node_size» ≤ 6
+leaf-in-record s none =
+    omega (arith, mul-le-mul-right (s .«node_size») (trees.valid-numbers s none .several), trees.width-is s none, trees.width-fits s none)
+
+-- ---- the beginning
+
+module _ (s : ParameterSet) (store : List ℕ) (n : ℕ) where
+  abbrev badLengths : Bool
+  badLengths = not (has store (storeWords p s) && leb n (2 ^ 32))
+
+  pub early-numbered : Numbered (earlyRows p s store n)
+  unfolding earlyRows
+  early-numbered = numbered-append (set-numbered p s) (next (lit< tt) no-rows)
+
+  pub early-set : firstRow (setRows p s) ≢ 0 → firstRow (earlyRows p s store n) ≡ firstRow (setRows p s)
+  unfolding earlyRows
+  early-set o = first-front (setRows p s) _ o
+
+  pub early-ten : firstRow (setRows p s) ≡ 0 → badLengths ≡ true → firstRow (earlyRows p s store n) ≡ 10
+  unfolding earlyRows
+  early-ten z e = first-back (setRows p s) _ (set-numbered p s) z ∙ row-applies 10 badLengths _ e
+
+  pub early-none : firstRow (setRows p s) ≡ 0 → badLengths ≡ false → firstRow (earlyRows p s store n) ≡ 0
+  unfolding earlyRows firstRow
+  early-none z e = first-back (setRows p s) _ (set-numbered p s) z ∙ row-passes 10 badLengths [] e
+
+  pub begin-refused : (k : ℕ) → k ≢ 0 → firstRow (earlyRows p s store n) ≡ k
+      → record { row = k; places = 0; placed = true; words = true; made = 0 } ≡ beginOf p s store n
+  unfolding beginOf
+  begin-refused zero o e = absurd (o refl)
+  begin-refused (suc k) o e = ap (λ (r : ℕ). begun r (leafCount p s) (allWords p store)) (sym e)
+
+  pub begin-clear : (m : ℕ) (w : Bool) → m ≡ leafCount p s → w ≡ allWords p store → firstRow (earlyRows p s store n) ≡ 0
+      → record { row = 0; places = m; placed = true; words = w; made = 0 } ≡ beginOf p s store n
+  unfolding beginOf
+  begin-clear m w f g e = (λ i. begun 0 (f i) (g i)) ∙ ap (λ (r : ℕ). begun r (leafCount p s) (allWords p store)) (sym e)
+
+-- ---- a write that is allowed
+
+pub may-no-row : (t : Tally) (q : ℕ) → mayWrite t q ≡ true → t .row ≡ 0
+unfolding mayWrite
+may-no-row t q e = eqb-true (t .row) 0 (left-true (eqb (t .row) 0) (t .placed && (t .words && ltb q (t .places))) e)
+
+pub may-inside : (t : Tally) (q : ℕ) → mayWrite t q ≡ true → q < t .places
+unfolding mayWrite
+may-inside t q e =
+    ltb-true q (t .places) (right-true (t .words) _ (right-true (t .placed) _ (right-true (eqb (t .row) 0) (t .placed && (t .words && ltb q (t .places))) e)))
+
+-- ---- a step
+
+-- what a step keeps of a tally: the row, the places, and room for the count
+pub record Follows (t t′ : Tally) : Type 0 where
+  pub row : t′ .row ≡ t .row
+  pub places : t′ .places ≡ t .places
+  pub made : t′ .made ≤ t .made + 32
+
+same : (t : Tally) → Follows t t
+same t = record { row = refl; places = refl; made = omega arith }
+
+test-follows : (s : ParameterSet) (r : Record) (t : Tally) → Follows t (testOf p s r t)
+unfolding testOf
+test-follows s r t = go (eqb (t .row) 0) refl
+  where
+    next : Tally
+    next = record {
+      row = 0;
+      places = t .places;
+      placed = t .placed && ltb (r .place) (t .places);
+      words = t .words && allWords p (leafOf (s .«node_size») r);
+      made = t .made;
+    }
+
+    go : (b : Bool) → eqb (t .row) 0 ≡ b → Follows t (cond b next t)
+    go true e = record { row = sym (eqb-true (t .row) 0 e); places = refl; made = omega arith }
+    go false e = same t
+
+write-follows : (s : ParameterSet) (r : Record) (u : Pass) → (u .tally .row ≡ 0 → firstRow (setRows p s) ≡ 0) → Follows (u .tally) (writeOf p s r u .tally)
+unfolding writeOf
+write-follows s r u accepted = go (mayWrite (u .tally) (r .place)) refl
+  where
+    done : Counted
+    done = replaceFrom (treeOf p s) (s .height) (r .place) (leafOf (s .«node_size») r) (counted (u .store) (u .tally .made))
+
+    go : (b : Bool) → mayWrite (u .tally) (r .place) ≡ b → Follows (u .tally) (cond b (wrote (u .tally) done) u .tally)
+    go true e =
+        let none = accepted (may-no-row (u .tally) (r .place) e) in
+        let counts : done .made ≡ u .tally .made + s .height =
+        replace-made (treeOf p s) (trees.shape-regular s none) (s .height) (r .place) (leafOf (s .«node_size») r) (counted (u .store) (u .tally .made)) in
+        record { row = refl; places = refl; made = omega (arith, counts, trees.valid-numbers s none .low) }
+    go false e = same (u .tally)
+
+step-follows : (s : ParameterSet) (phase : ℕ) (r : Record) (u : Pass) → (u .tally .row ≡ 0 → firstRow (setRows p s) ≡ 0) → Follows (u .tally) (stepOf p s phase r u .tally)
+unfolding stepOf
+step-follows s phase r u accepted = go (eqb phase 0)
+  where
+    go : (b : Bool) → Follows (u .tally) (cond b (pass (testOf p s r (u .tally)) (u .store)) (writeOf p s r u) .tally)
+    go true = test-follows s r (u .tally)
+    go false = write-follows s r u accepted
+
+-- after a step a pass goes on, with a record less before it
+pub goes-on : (s : ParameterSet) (phase : ℕ) (r : Record) (u : Pass) (store : List ℕ) (n : ℕ) → length store ≡ length (u .store)
+    → Going p s (u .store) (u .tally) (suc n) → Going p s store (stepOf p s phase r u .tally) n
+goes-on s phase r u store n e G =
+    let F = step-follows s phase r u (G .accepted) in
+    record {
+      accepted = λ z. G .accepted (sym (F .row) ∙ z);
+      whole = λ z. e ∙ G .whole (sym (F .row) ∙ z);
+      places = λ z. F .places ∙ G .places (sym (F .row) ∙ z);
+      counts = omega (arith, F .made, G .counts);
+    }

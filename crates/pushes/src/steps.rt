@@ -1,0 +1,160 @@
+// The parts of a push: where it begins, what is done with one record, and the answer.
+ghost use mathlib.Core.Path.{_≡_};
+ghost use mathlib.Core.Bool.{true, _&&_};
+ghost use Prim.Native.Nat.{_+_, _≤_, _<_, _^_};
+ghost use lib.ListN.{length, take};
+ghost use Rattle.modular.specs.Arithmetic.{allWords};
+ghost use Rattle.modular.specs.Goldilocks.{p};
+ghost use Rattle.refusals.specs.Table.{firstRow};
+ghost use Rattle.parameters.specs.ParameterSet.{setRows};
+ghost use Rattle.merkle.specs.Replacement.{replaceFrom};
+ghost use Rattle.trees.specs.Shapes.{counted};
+ghost use Rattle.tree_entries.specs.Trees.{treeOf, leafCount, storeWords};
+ghost use Rattle.pushes.specs.Passes.{pass, Going, beginOf, testOf, mayWrite, stepOf, finishOf};
+use crate::record::Record;
+use crate::tally::Tally;
+use change_entries::Changed;
+use parameters::ParameterSet;
+use tree_entries::sizes;
+
+// A refusal by one of rows 1 to 10.
+fn turned_back(row: u8) -> Tally
+    ensures { λ r. ⌜ r ≡ record { row = row; places = 0; placed = true; words = true; made = 0 } ⌝ }
+{
+    Tally {
+        row: row,
+        places: 0,
+        placed: true,
+        words: true,
+        made: 0,
+    }
+}
+
+// Rows 1 to 10, and row 12 of the store.
+pub fn begin(set: ParameterSet, store: &[u64], count: usize) -> Tally
+    ensures { λ r. ⌜ r ≡ beginOf p set (now (store .entry)) count ⌝ }
+{
+    let row = state_entries::row_of(set);
+    if row != 0 {
+        return turned_back(row);
+    }
+    if store.len() != sizes::store_words(set) {
+        return turned_back(10);
+    }
+    if 4294967296 < count {
+        return turned_back(10);
+    }
+    Tally {
+        row: 0,
+        places: sizes::places(set) as u64,
+        placed: true,
+        words: parameters::all_words(store),
+        made: 0,
+    }
+}
+
+fn both(a: bool, b: bool) -> bool
+    ensures { λ r. ⌜ r ≡ (a && b) ⌝ }
+{
+    if a {
+        return b;
+    }
+    false
+}
+
+// Whether the first numbers of a record are words.
+fn leaf_is_words(words: [u64; 6], node_size: u64) -> bool
+    requires { ⌜ «node_size» ≤ 6 ⌝ }
+    ensures { λ r. ⌜ r ≡ allWords p (take «node_size» words) ⌝ }
+{
+    let end = node_size as usize;
+    parameters::all_words(&words[..end])
+}
+
+// The first pass: a record's place and leaf are tested.
+fn test_record(set: ParameterSet, tally: Tally, item: Record) -> Tally
+    requires { ⌜ (tally .row ≡ 0 → firstRow (setRows p set) ≡ 0) ⌝ }
+    ensures { λ r. ⌜ r ≡ testOf p set item tally ⌝ }
+{
+    if tally.row != 0 {
+        return tally;
+    }
+    let words = item.words;
+    Tally {
+        row: 0,
+        places: tally.places,
+        placed: both(tally.placed, item.place < tally.places),
+        words: both(tally.words, leaf_is_words(words, set.node_size)),
+        made: tally.made,
+    }
+}
+
+// Whether nothing is refused, and the place is there.
+fn may_write(tally: Tally, place: u64) -> bool
+    ensures { λ r. ⌜ r ≡ mayWrite tally place ⌝ }
+{
+    both(
+        tally.row == 0,
+        both(tally.placed, both(tally.words, place < tally.places)),
+    )
+}
+
+// The single replacement of a record: the count that is handed in goes on.
+fn write_record(set: ParameterSet, store: &mut [u64], place: u64, words: [u64; 6], made: u64) -> u64
+    requires { ⌜ (firstRow (setRows p set) ≡ 0) × (length (now store) ≡ storeWords p set) × (place < leafCount p set) × (made + 32 < 2 ^ 64) ⌝ }
+    ensures { λ r. ⌜ (r ≡ replaceFrom (treeOf p set) (set .height) place (take (set .«node_size») words) (counted (now (store .entry)) made) .made)
+        × (now (store .exit) ≡ replaceFrom (treeOf p set) (set .height) place (take (set .«node_size») words) (counted (now (store .entry)) made) .store) ⌝ }
+{
+    let d = sizes::dimensions(set);
+    let diagonal = set.diagonal;
+    let constants = set.constants;
+    let end = d.node_size;
+    trees::replace_from(
+        d,
+        &diagonal,
+        &constants,
+        store,
+        place as usize,
+        &words[..end],
+        made,
+    )
+}
+
+// What a pass does with a record: phase 0 tests, any other writes where nothing is refused.
+pub fn step(set: ParameterSet, store: &mut [u64], phase: u64, tally: Tally, item: Record) -> Tally
+    requires { ⌜ Going p set (now store) tally 1 ⌝ }
+    ensures { λ r. ⌜ (r ≡ stepOf p set phase item (pass tally (now (store .entry))) .tally)
+        × (now (store .exit) ≡ stepOf p set phase item (pass tally (now (store .entry))) .store) ⌝ }
+{
+    if phase == 0 {
+        return test_record(set, tally, item);
+    }
+    if !may_write(tally, item.place) {
+        return tally;
+    }
+    let words = item.words;
+    let made = write_record(set, store, item.place, words, tally.made);
+    Tally {
+        row: tally.row,
+        places: tally.places,
+        placed: tally.placed,
+        words: tally.words,
+        made: made,
+    }
+}
+
+// The lowest row that applies, or the count.
+pub fn finish(tally: Tally) -> Changed
+    ensures { λ r. ⌜ r ≡ finishOf tally ⌝ }
+{
+    if tally.row != 0 {
+        return Changed::Refused(tally.row);
+    }
+    if !tally.placed {
+        return Changed::Refused(11);
+    }
+    if !tally.words {
+        return Changed::Refused(12);
+    }
+    Changed::Compressions(tally.made)
+}
