@@ -10,6 +10,8 @@ from collections.abc import Callable, Iterator
 
 import cases
 import field
+import history_cases
+import history_vectors
 import merkle
 import poseidon2
 import program
@@ -458,6 +460,18 @@ def leaf_book() -> Iterator[Check]:
         yield name + " store", store, built(s, merkle.book_leaves(book))
 
 
+def histories() -> Iterator[Check]:
+    """The cases of history_vectors: each call's row, the book's answers, the store at the end."""
+    for n, one in enumerate(history_cases.histories()):
+        s, leaves, (_, store) = history_vectors.begun(one)
+        book = merkle.open_book(s, leaves)
+        for i, call in enumerate(one.calls):
+            kind, number = history_vectors.called(s, call, store)
+            yield f"{n}, row of call {i}", number if kind == "refused" else 0, call.row
+            yield f"{n}, call {i}", history_vectors.booked(s, call, book), (kind, number)
+        yield f"{n}, store", store, built(s, merkle.book_leaves(book))
+
+
 def seeded_call(
     rng: random.Random, s: ParameterSet, store: list[int], book: list[list[int]]
 ) -> tuple[object, object]:
@@ -587,6 +601,7 @@ GROUPS = [
     ("extractions", extractions),
     ("trees", trees),
     ("leaf book", leaf_book),
+    ("histories", histories),
     ("tree refusals", tree_refusals),
     ("program refusals", program_refusals),
 ]

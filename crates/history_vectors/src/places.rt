@@ -1,0 +1,48 @@
+// Each place's own opening, and the verdict on its leaf with it.
+use harness::answers;
+use harness::lists;
+use harness::output;
+use parameters::ParameterSet;
+use std::num::wrapping_add_u64;
+use tree_calls::entries;
+
+// The words of a node that begin at a place of the store, where it has them.
+fn node_at(store: &[u64], at: u64, node_size: usize) -> &[u64] {
+    let from = lists::clamped(at, store.len());
+    lists::part(lists::rest(store, from), node_size)
+}
+
+// The line of the place whose leaf begins at `leaf` in the store.
+fn line(set: ParameterSet, store: &[u64], place: u64, leaf: u64, siblings: usize, root: u64) {
+    let node_size = lists::clamped(set.node_size, 16);
+    output::text(b"place");
+    output::operand(place);
+    output::text(b" open");
+    let opening = entries::run(
+        answers::DIGEST,
+        entries::OPEN,
+        set,
+        store,
+        place,
+        [7u64; 1024],
+        siblings,
+    );
+    output::text(b" verify");
+    entries::print_verdict(opening_tree::verify(
+        set,
+        node_at(store, root, node_size),
+        place,
+        node_at(store, leaf, node_size),
+        lists::part(&opening, siblings),
+    ));
+    output::end_line();
+}
+
+// The line of each place from 0 on; the root's words begin at `root` in the store.
+pub fn each(set: ParameterSet, store: &[u64], places: u64, siblings: usize, root: u64) {
+    let mut leaf: u64 = 0;
+    for place in 0..places {
+        line(set, store, place, leaf, siblings, root);
+        leaf = wrapping_add_u64(leaf, set.node_size);
+    }
+}

@@ -1,0 +1,36 @@
+-- Records of a list of numbers, and an array that is filled with them, one after the other.
+use mathlib.Core.Path.{_≡_, refl, sym, ap, subst, _∙_}
+use mathlib.Core.List.{List, [], _∷_, _++_}
+use Prim.Native.Nat.{ℕ, suc, _+_, _-_, _/_, _<_, min}
+use native.Mathlib.Numerals.{add-one}
+use lib.ListN.{length, take, drop, set, length-drop, length-set}
+use lib.Seq.{take-length, take-suc-set}
+use Rattle.pushes.specs.declared.record.Record.{Record}
+use Rattle.push_calls.specs.Listed.{recordAt, recordsOf, listed}
+
+-- a slice from i on, as its code takes it
+pub from-on : (ns : List ℕ) (i : ℕ) → take (length ns - i) (drop i ns) ≡ drop i ns
+from-on ns i = subst (λ (n : ℕ). take n (drop i ns) ≡ drop i ns) (length-drop i ns) (take-length (drop i ns))
+
+-- the first i are there
+pub record Filled (ns : List ℕ) (rs : List Record) (i : ℕ) : Type 0 where
+  pub sixteen : length rs ≡ 16
+  pub sofar : take i rs ≡ recordsOf ns i
+
+pub filled-none : (ns : List ℕ) (rs : List Record) → length rs ≡ 16 → Filled ns rs 0
+unfolding recordsOf
+filled-none ns rs e = record { sixteen = e; sofar = refl }
+
+filled-suc : (ns : List ℕ) (rs : List Record) (i : ℕ) (r : Record) → i < 16 → r ≡ recordAt ns i → Filled ns rs i → take (suc i) (set rs i r) ≡ recordsOf ns (suc i)
+unfolding recordsOf
+filled-suc ns rs i r below e F = take-suc-set rs i r (subst (λ (n : ℕ). i < n) (sym (F .sixteen)) below) ∙ (λ j. F .sofar j ++ (e j ∷ []))
+
+pub filled-next : (ns : List ℕ) (rs : List Record) (i : ℕ) (r : Record) → i < 16 → r ≡ recordAt ns i → Filled ns rs i → Filled ns (set rs i r) (i + 1)
+filled-next ns rs i r below e F = record {
+  sixteen = length-set rs i r ∙ F .sixteen;
+  sofar = subst (λ (n : ℕ). take n (set rs i r) ≡ recordsOf ns n) (sym (add-one i)) (filled-suc ns rs i r below e F);
+}
+
+pub filled-all : (ns : List ℕ) (rs : List Record) (i : ℕ) → i ≡ min 16 (length ns / 7) → Filled ns rs i → take i rs ≡ listed ns
+unfolding listed
+filled-all ns rs i e F = F .sofar ∙ ap (recordsOf ns) e

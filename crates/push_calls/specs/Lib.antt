@@ -1,0 +1,2 @@
+-- Records read from a flat list of numbers.
+pub mod Listed
