@@ -1,10 +1,10 @@
 // Replacements and pushes, one after another on a store.
-use harness::answers;
 use harness::input;
 use harness::lists;
 use harness::output;
 use opening_tree::Changed;
 use parameters::ParameterSet;
+use tree_calls::entries;
 
 // What a call answered, and where the next one begins.
 struct Called {
@@ -46,21 +46,11 @@ fn call(input: &[u8], at: usize, set: ParameterSet, store: &mut [u64]) -> Called
     push(input, kind.next, set, store)
 }
 
-fn print_changed(changed: Changed) {
-    match changed {
-        Changed::Compressions(count) => {
-            output::text(b" compressions");
-            output::operand(count);
-        }
-        Changed::Refused(number) => answers::refused(number),
-    }
-}
-
 // One call's line, with the digest of the store after it. Where the next call begins.
 fn line(input: &[u8], at: usize, set: ParameterSet, store: &mut [u64]) -> usize {
     let called = call(input, at, set, store);
     let changed = called.changed;
-    print_changed(changed);
+    entries::print_changed(changed);
     output::operand(lists::digest(1, store));
     output::end_line();
     called.next

@@ -2,18 +2,18 @@
 use mathlib.Core.Path.{_≡_, refl, sym, ap, _∙_}
 use mathlib.Core.List.{List}
 use Prim.Native.Nat.{ℕ, suc, _+_, _*_, _^_, _<_}
-use native.Mathlib.Nat.{pow-zero, one-mul}
+use native.Mathlib.Nat.{pow-zero, one-mul, zero-add}
 use native.Mathlib.Omega.{arith}
 use lib.ListN.{length}
 use Rattle.merkle.specs.Levels.{Shape, Regular, KeepsWords, Nodes, node, row, level, build, size}
 use Rattle.merkle.specs.Openings.{openingAt, pathNode, accepts}
 use Rattle.merkle.specs.Replacement.{Counted, Change, replace, push, pushFrom}
-use Rattle.merkle.specs.Statements.{IsStore, Building, LeafRoot, Storeless, Opened, Accepting, Replaced, Proper, Pushed, EmptyPush, TreeLaws, WordLaws, EveryTree}
+use Rattle.merkle.specs.Statements.{IsStore, Building, LeafRoot, Storeless, Opened, Accepting, Replaced, Proper, Pushed, Counts, EmptyPush, TreeLaws, WordLaws, EveryTree}
 use Rattle.merkle.proofs.Lists.{same-true, eq-same}
 use Rattle.merkle.proofs.Levels.{build-size, build-words, built-level, build-only, level-node, root-build}
 use Rattle.merkle.proofs.Storeless.{node-from-row, row-from-none, row-from-nodes, storeless-root}
 use Rattle.merkle.proofs.Openings.{length-opening, opening-part, opening-words, path-node-words, own-end, own-accepted}
-use Rattle.merkle.proofs.Replacement.{replace-build, push-build, push-words}
+use Rattle.merkle.proofs.Replacement.{replace-made, push-made, replace-build, push-build, push-words}
 use Rattle.merkle.proofs.Extraction.{extracted, binding}
 
 module _ (S : Shape) (G : Regular S) where
@@ -70,6 +70,14 @@ module _ (S : Shape) (G : Regular S) where
       let r = push-build S G h cs leaves 0 P N in
       record { stored = ap (λ (s : Counted). s .store) r; counted = ap (λ (s : Counted). s .made) r ∙ z }
 
+  counts : Counts S
+  unfolding replace push
+  counts =
+      record {
+        one = λ h q leaf store. replace-made S G h q leaf (record { store = store; made = 0 }) ∙ zero-add h;
+        each = λ h cs store. push-made S G h cs (record { store = store; made = 0 }) ∙ zero-add (h * length cs);
+      }
+
   empty-push : EmptyPush S
   unfolding push pushFrom
   empty-push h store = refl
@@ -89,6 +97,7 @@ module _ (S : Shape) (G : Regular S) where
         accepting = accepting;
         replaced = replaced;
         pushed = pushed;
+        counts = counts;
         emptyPush = empty-push;
         extracted = extracted S;
         binding = binding S G;

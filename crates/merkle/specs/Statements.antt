@@ -79,6 +79,11 @@ pub record Pushed (S : Shape) (h : ℕ) (cs : List Change) (leaves : List ℕ) :
   pub stored : push S h cs (build S h leaves) .store ≡ build S h (changed S cs leaves)
   pub counted : push S h cs (build S h leaves) .made ≡ h * length cs
 
+-- The counts owe nothing to the store: h for a replacement, h times the list's length for a push.
+pub record Counts (S : Shape) : Type 0 where
+  pub one : (h q : ℕ) (leaf store : List ℕ) → replace S h q leaf store .made ≡ h
+  pub each : (h : ℕ) (cs : List Change) (store : List ℕ) → push S h cs store .made ≡ h * length cs
+
 -- "an empty list changes nothing"
 abbrev pub EmptyPush : Shape → Type 0
 EmptyPush S = (h : ℕ) (store : List ℕ) → push S h [] store ≡ record { store = store; made = 0 }
@@ -124,6 +129,7 @@ pub record TreeLaws (S : Shape) : Type 0 where
   pub replaced : (h q : ℕ) (leaves leaf : List ℕ) → Nodes S (S .arity ^ h) leaves → q < S .arity ^ h → length leaf ≡ S .nodeSize
       → Replaced S h q leaves leaf
   pub pushed : (h : ℕ) (cs : List Change) (leaves : List ℕ) → Nodes S (S .arity ^ h) leaves → Proper S h cs → Pushed S h cs leaves
+  pub counts : Counts S
   pub emptyPush : EmptyPush S
   pub extracted : (h q : ℕ) (a x b y : List ℕ) → Extracted S h q a x b y (extract S h q a x b y)
   pub binding : Binding S

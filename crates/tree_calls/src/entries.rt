@@ -1,7 +1,8 @@
-// The entries of trees that write to a buffer, and what a verdict says.
+// The entries of trees that write to a buffer, and what a verdict and a change say.
 use harness::answers;
 use harness::lists;
 use harness::output;
+use opening_tree::Changed;
 use opening_tree::Outcome;
 use opening_tree::Verdict;
 use parameters::ParameterSet;
@@ -74,5 +75,15 @@ pub fn print_verdict(verdict: Verdict) {
         Verdict::Accepted => output::text(b" accepted"),
         Verdict::Rejected => output::text(b" rejected"),
         Verdict::Refused(number) => answers::refused(number),
+    }
+}
+
+pub fn print_changed(changed: Changed) {
+    match changed {
+        Changed::Compressions(count) => {
+            output::text(b" compressions");
+            output::operand(count);
+        }
+        Changed::Refused(number) => answers::refused(number),
     }
 }

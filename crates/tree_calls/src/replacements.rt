@@ -1,6 +1,5 @@
 // The section `replacements`: leaves replaced one after another in a store that building wrote.
 use crate::entries;
-use harness::answers;
 use harness::handed;
 use harness::input;
 use harness::lists;
@@ -32,21 +31,11 @@ fn read_call(input: &[u8], at: usize) -> Call {
     }
 }
 
-fn print_changed(changed: Changed) {
-    match changed {
-        Changed::Compressions(count) => {
-            output::text(b" compressions");
-            output::operand(count);
-        }
-        Changed::Refused(number) => answers::refused(number),
-    }
-}
-
 // A replacement's line, with the digest of the whole store.
 fn print_line(place: u64, changed: Changed, store: &[u64]) {
     output::text(b"replace");
     output::operand(place);
-    print_changed(changed);
+    entries::print_changed(changed);
     output::operand(lists::digest(1, store));
     output::end_line();
 }
