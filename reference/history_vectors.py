@@ -9,12 +9,15 @@ end:
     replace Q refused N DIGEST
     push M compressions N DIGEST
     push M refused N DIGEST
-    place Q open A verify V
+    place Q open A verify V read B B ... spoilt B B ... long B
 
 where A is an answer as in the sections that tree_vectors.py describes, with
 digests; M is how many records are lent; and DIGEST is that of the whole store
 after the call. V is the verdict on the store's last l words, the place, its leaf
-and its own opening. The reference takes that leaf from the leaf book, which has
+and its own opening. B is what a reader hands back, the digest of a level's part
+or `refused N`: of the opening for each level and one level too many; the same
+after its first number is p, if it has one; and for level 0 after one number more.
+The reference takes that leaf from the leaf book, which has
 seen neither the store nor an answer, and the program takes it from the store.
 """
 
@@ -22,6 +25,7 @@ from collections.abc import Iterator
 
 import history_cases
 import merkle
+from field import P
 from history_cases import LEAF_PLACES, History, Push, Replace
 from parameters import ParameterSet
 from tree_cases import TREE_PLACES
@@ -59,11 +63,28 @@ def begun(one: History) -> tuple[ParameterSet, list[int], Called]:
     return s, leaves, written(merkle.build, s, leaves, [7] * one.tree.store)
 
 
+def reading(s: ParameterSet, siblings: list[int], level: int) -> str:
+    """What a reader hands back for a level."""
+    kind, answer = merkle.read_opening(s, siblings, level)
+    return f"refused {answer}" if kind == "refused" else str(digest(answer))
+
+
+def readings(s: ParameterSet, siblings: list[int]) -> str:
+    """Each level's part of an opening, of a spoilt one and of one that is too long."""
+    spoilt = [P, *siblings[1:]] if siblings else []
+    whole, bad = (
+        " ".join(reading(s, words, level) for level in range(s.height + 1))
+        for words in (siblings, spoilt)
+    )
+    return f"read {whole} spoilt {bad} long {reading(s, [*siblings, 7], 0)}"
+
+
 def place_line(s: ParameterSet, one: History, store: list[int], place: int, leaf: list[int]) -> str:
     """A place's own opening, and the verdict on the book's leaf."""
     opened = written(merkle.opening, s, store, place, [7] * one.tree.siblings)
     judged = merkle.verify(s, store[-s.node_size :], place, leaf, opened[1])
-    return f"place {place} open {as_digest(opened)} verify {verdict(*judged)}"
+    line = f"place {place} open {as_digest(opened)} verify {verdict(*judged)}"
+    return f"{line} {readings(s, opened[1])}"
 
 
 def history_lines(one: History) -> Iterator[str]:

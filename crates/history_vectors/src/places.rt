@@ -1,4 +1,4 @@
-// Each place's own opening, and the verdict on its leaf with it.
+// Each place's own opening, the verdict on its leaf with it, and its parts.
 use harness::answers;
 use harness::lists;
 use harness::output;
@@ -10,6 +10,38 @@ use tree_calls::entries;
 fn node_at(store: &[u64], at: u64, node_size: usize) -> &[u64] {
     let from = lists::clamped(at, store.len());
     lists::part(lists::rest(store, from), node_size)
+}
+
+const P: u64 = 18446744069414584321;
+
+// What a reader hands back for a level.
+fn print_level(set: ParameterSet, siblings: &[u64], level: u64) {
+    let row = reader_calls::level_row(set, siblings, level);
+    if row != 0 {
+        answers::refused(row);
+        return;
+    }
+    output::operand(lists::digest(1, reader_calls::level_words(set, siblings, level)));
+}
+
+// Each level's part, and that of a level too many.
+fn print_levels(set: ParameterSet, siblings: &[u64]) {
+    for level in 0..wrapping_add_u64(set.height, 1) {
+        print_level(set, siblings, level);
+    }
+}
+
+// The parts of an opening, of one whose first number is p, and of one that is too long.
+fn print_readings(set: ParameterSet, opening: [u64; 1024], count: usize) {
+    output::text(b" read");
+    print_levels(set, lists::part(&opening, count));
+    output::text(b" spoilt");
+    let mut spoilt = opening;
+    lists::put(&mut spoilt, 0, P);
+    print_levels(set, lists::part(&spoilt, count));
+    output::text(b" long");
+    let longer = lists::clamped(wrapping_add_u64(count as u64, 1), 1024);
+    print_level(set, lists::part(&opening, longer), 0);
 }
 
 // The line of the place whose leaf begins at `leaf` in the store.
@@ -35,6 +67,7 @@ fn line(set: ParameterSet, store: &[u64], place: u64, leaf: u64, siblings: usize
         node_at(store, leaf, node_size),
         lists::part(&opening, siblings),
     ));
+    print_readings(set, opening, siblings);
     output::end_line();
 }
 

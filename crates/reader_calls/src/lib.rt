@@ -1,0 +1,22 @@
+// Readings for callers that cannot hold a part: its row and its words, one by one.
+ghost use mathlib.Core.Path.{_≡_};
+ghost use Rattle.modular.specs.Goldilocks.{p};
+ghost use Rattle.refusals.specs.Table.{firstRow};
+ghost use Rattle.readers.specs.Readers.{readRows, readWords};
+use parameters::ParameterSet;
+
+// The number of the row that turns a reading back, or 0.
+pub fn level_row(set: ParameterSet, siblings: &[u64], level: u64) -> u8
+    ensures { λ r. ⌜ r ≡ firstRow (readRows p set (now (siblings .entry)) level) ⌝ }
+{
+    let part = readers::read_level(set, siblings, level);
+    part.row
+}
+
+// The words that a reading hands back.
+pub fn level_words<'a>(set: ParameterSet, siblings: &'a [u64], level: u64) -> &'a [u64]
+    ensures { λ r. ⌜ now r ≡ readWords p set (now (siblings .entry)) level ⌝ }
+{
+    let part = readers::read_level(set, siblings, level);
+    part.words
+}

@@ -1,0 +1,2 @@
+-- What an opening reader hands back.
+pub mod Readers

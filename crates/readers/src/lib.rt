@@ -1,0 +1,9 @@
+// Opening readers: views over the lent sibling words of an opening, and a level's part of them.
+mod levels;
+pub mod reading;
+
+pub use reading::OpeningReader;
+pub use reading::Part;
+pub use reading::part_at;
+pub use reading::read_level;
+pub use reading::reader;
