@@ -13,3 +13,4 @@ test:
 bench:
 	bench/run.sh permutation
 	bench/run.sh tree
+	bench/run.sh changes

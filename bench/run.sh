@@ -1,5 +1,5 @@
 #!/usr/bin/env bash
-# usage: run.sh permutation|tree [ROUNDS]
+# usage: run.sh permutation|tree|changes [ROUNDS]
 # Builds the library and a benchmark that has Rust versions with u128 beside it, and prints the ratios of one run.
 set -eu
 cd "$(dirname "$0")/.."
