@@ -18,7 +18,7 @@ use Rattle.state_entries.specs.Permutation.{compressUnder}
 use Rattle.tree_entries.specs.Trees.{treeOf}
 use Rattle.tree_entries.proofs.AcceptedTrees.{valid-numbers, width-is, shape-regular}
 use Rattle.extraction_entries.specs.Extraction.{Pair, bothAccepted, extractRows, collision, levelOf, firstOf, secondOf, extractReply, extractedFirst, extractedSecond}
-use Rattle.extraction_entries.specs.Statements.{IsRow, Collides, Extracting}
+use Rattle.extraction_entries.specs.Statements.{IsRow, Collides, Written, Extracting}
 use Rattle.extraction_entries.proofs.AcceptedPairs.{Opening, extract-numbered}
 use Rattle.extraction_entries.proofs.Verdicts.{other-leaves}
 use Rattle.extraction_entries.proofs.Extracted.{paired, found, collided}
@@ -36,27 +36,41 @@ module _ (s : ParameterSet) (two : Pair) (first second : List ℕ) (z : firstRow
   unfolding extractReply
   replies = reply-done (extractRows p s two first second) (levelOf (collision p s two) ∷ []) (extract-numbered s two first second) z
 
-  pub collides : Collides s two first second
-  unfolding levelOf firstOf secondOf extractedFirst extractedSecond compressUnder
+  one : extractedFirst p s two first second ≡ found s two first second z .collision .first
+  unfolding firstOf extractedFirst
+  one =
+      sym (written-after first (firstOf (collision p s two) first) replies)
+      ∙ ap (λ (o : Option Collision). firstOf o first) (collided s two first second z)
+
+  other : extractedSecond p s two first second ≡ found s two first second z .collision .second
+  unfolding secondOf extractedSecond
+  other =
+      sym (written-after second (secondOf (collision p s two) second) replies)
+      ∙ ap (λ (o : Option Collision). secondOf o second) (collided s two first second z)
+
+  collides : Collides s two first second
+  unfolding levelOf compressUnder
   collides =
+      let C = found s two first second z .lowestOne in
+      record {
+        level = found s two first second z .collision .level;
+        answered = replies ∙ ap (λ (o : Option Collision). done (levelOf o ∷ [])) (collided s two first second z);
+        differ = λ w. C .differ (sym one ∙ w ∙ other);
+        alike = ap (treeOf p s .compress) one ∙ C .alike ∙ sym (ap (treeOf p s .compress) other);
+      }
+
+  pub written : Written s two first second
+  unfolding levelOf
+  written =
       let P = paired s two first second z in
       let c = found s two first second z .collision in
       let C = found s two first second z .lowestOne in
-      let given = collided s two first second z in
-      let one : extractedFirst p s two first second ≡ c .first =
-      sym (written-after first (firstOf (collision p s two) first) replies) ∙ ap (λ (o : Option Collision). firstOf o first) given in
-      let other : extractedSecond p s two first second ≡ c .second =
-      sym (written-after second (secondOf (collision p s two) second) replies) ∙ ap (λ (o : Option Collision). secondOf o second) given in
       record {
-        level = c .level;
-        below = C .below;
-        answered = replies ∙ ap (λ (o : Option Collision). done (levelOf o ∷ [])) given;
+        below = subst (λ (o : Option Collision). levelOf o < s .height) (sym (collided s two first second z)) (C .below);
         rows = (
           subst (IsRow s) (sym (one ∙ C .first)) (row-at s (P .set) (two .place) (two .firstLeaf) (two .firstSiblings) (P .opening) (c .level) (C .below)),
           subst (IsRow s) (sym (other ∙ C .second)) (row-at s (P .set) (two .place) (two .secondLeaf) (two .secondSiblings) (P .other) (c .level) (C .below)),
         );
-        differ = λ w. C .differ (sym one ∙ w ∙ other);
-        alike = ap (treeOf p s .compress) one ∙ C .alike ∙ sym (ap (treeOf p s .compress) other);
       }
 
 pub extracting : Extracting
@@ -64,5 +78,5 @@ unfolding bothAccepted
 extracting s two first second none both differ =
     let one = accepts (treeOf p s) (s .height) (two .root) (two .place) (two .firstLeaf) (two .firstSiblings) in
     let other = accepts (treeOf p s) (s .height) (two .root) (two .place) (two .secondLeaf) (two .secondSiblings) in
-    collides s two first second
-    (sym (other-leaves s two first second none (left-true one other both) (right-true one other both) (ne-same (two .firstLeaf) (two .secondLeaf) differ)))
+    let z = sym (other-leaves s two first second none (left-true one other both) (right-true one other both) (ne-same (two .firstLeaf) (two .secondLeaf) differ)) in
+    (collides s two first second z, written s two first second z)

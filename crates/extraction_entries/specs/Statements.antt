@@ -10,7 +10,7 @@ use Rattle.modular.specs.Goldilocks.{p}
 use Rattle.refusals.specs.Table.{firstRow, done}
 use Rattle.parameters.specs.declared.ParameterSet.{ParameterSet}
 use Rattle.state_entries.specs.Permutation.{compressUnder}
-use Rattle.extraction_entries.specs.Extraction.{Pair, pairRows, bothAccepted, extractReply, extractedFirst, extractedSecond}
+use Rattle.extraction_entries.specs.Extraction.{Pair, pairRows, bothAccepted, collision, levelOf, extractReply, extractedFirst, extractedSecond}
 
 -- a row: t words
 abbrev pub IsRow : ParameterSet → List ℕ → Type 0
@@ -19,14 +19,17 @@ IsRow s xs = (length xs ≡ s .width) × (allWords p xs ≡ true)
 -- The extractor, handed two leaves with their openings and two buffers, answers a level and writes two different rows that compress alike.
 pub record Collides (s : ParameterSet) (two : Pair) (first second : List ℕ) : Type 0 where
   pub level : ℕ
-  pub below : level < s .height
   pub answered : extractReply p s two first second ≡ done (level ∷ [])
-  pub rows : IsRow s (extractedFirst p s two first second) × IsRow s (extractedSecond p s two first second)
   pub differ : extractedFirst p s two first second ≢ extractedSecond p s two first second
   pub alike : compressUnder p s (extractedFirst p s two first second) ≡ compressUnder p s (extractedSecond p s two first second)
+
+-- The level is one of the tree's, and the buffers hold "both rows, t words each".
+pub record Written (s : ParameterSet) (two : Pair) (first second : List ℕ) : Type 0 where
+  pub below : levelOf (collision p s two) < s .height
+  pub rows : IsRow s (extractedFirst p s two first second) × IsRow s (extractedSecond p s two first second)
 
 -- It does so wherever rows 1 to 12 are past and two different leaves are both accepted: where neither 14 nor 15 applies.
 abbrev pub Extracting : Type 0
 Extracting =
     (s : ParameterSet) (two : Pair) (first second : List ℕ) → firstRow (pairRows p s two first second) ≡ 0
-    → bothAccepted p s two ≡ true → two .firstLeaf ≢ two .secondLeaf → Collides s two first second
+    → bothAccepted p s two ≡ true → two .firstLeaf ≢ two .secondLeaf → Collides s two first second × Written s two first second

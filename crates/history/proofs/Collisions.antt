@@ -58,7 +58,7 @@ module _ (s : ParameterSet) (valid : firstRow (setRows p s) ≡ 0) (top : List �
         first-long = lf;
         second-long = ls;
       } in
-      extracting s two first second (pair-passes s two first second P) (and-true one other (A .ends) (B .ends)) n
+      extracting s two first second (pair-passes s two first second P) (and-true one other (A .ends) (B .ends)) n .0
 
   pub collides-iff : Offered s top q b y → a ≢ b → length first ≡ s .width → length second ≡ s .width
       → (verifyReply p s top q a x ≡ done (1 ∷ [])) ↔ Collides s (pair top q a x b y) first second

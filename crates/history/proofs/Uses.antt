@@ -14,12 +14,15 @@ use Rattle.parameters.specs.declared.ParameterSet.{ParameterSet}
 use Rattle.tree_entries.specs.Trees.{leafCount, storeWords, openingWords, has, built, opened, verifyReply}
 use Rattle.tree_entries.proofs.AcceptedTrees.{laws}
 use Rattle.pushes.specs.Pushes.{placesBelow, usedWords, fewRecords}
+use Rattle.extraction_entries.specs.Extraction.{Pair, extractRows, collision, levelOf, extractReply, extractedFirst, extractedSecond}
+use Rattle.extraction_entries.specs.Statements.{IsRow}
+use Rattle.extraction_entries.proofs.Statements.{written}
 use Rattle.history.specs.LeafBook.{Call, replacement, push, leafAt, bookRows, bookCount, bookReply, bookLeaves, bookAnswers}
 use Rattle.history.specs.History.{run}
 use Rattle.history.specs.Demand3.{rootOf}
 use Rattle.history.specs.Uses.{RootOfBook, Counts, OwnAccepted, OtherCollides, OnlyAccepted, Uses}
 use Rattle.history.proofs.Sets.{begun}
-use Rattle.history.proofs.Replies.{no-row}
+use Rattle.history.proofs.Replies.{no-row, reply-none}
 use Rattle.history.proofs.Book.{book-numbered}
 use Rattle.history.proofs.Demand3.{demand3}
 
@@ -58,11 +61,18 @@ own-accepted s leaves lent e calls T q inside buffer long =
     ap (λ (top : List ℕ). verifyReply p s top q (leafAt s q (bookLeaves p s calls leaves)) (opened p s (run p s calls (built p s leaves lent) .store) q buffer)) (sym (root-of-book s leaves lent e calls T))
     ∙ demand3 s leaves lent e calls T .own q inside buffer long .1
 
+-- what the extractor writes where it answers a level
+rows-of : (s : ParameterSet) (two : Pair) (first second : List ℕ) {result : List ℕ} → extractReply p s two first second ≡ done result
+    → IsRow s (extractedFirst p s two first second) × IsRow s (extractedSecond p s two first second)
+unfolding extractReply
+rows-of s two first second e =
+    written s two first second (reply-none (extractRows p s two first second) (levelOf (collision p s two) ∷ []) _ e) .rows
+
 other-collides : OtherCollides
 other-collides s leaves lent e calls T q inside leaf siblings n v =
     let C = demand3 s leaves lent e calls T .other q inside (zeros (openingWords p s)) (zeros-long (openingWords p s)) leaf siblings n
     (zeros (s .width)) (zeros (s .width)) (zeros-long (s .width)) (zeros-long (s .width)) .0 v in
-    record { first = _; second = _; rows = C .rows; differ = C .differ; alike = C .alike }
+    record { first = _; second = _; rows = rows-of _ _ _ _ (C .answered); differ = C .differ; alike = C .alike }
 
 only-accepted : OnlyAccepted
 only-accepted s leaves lent e calls T q inside leaf siblings n unaccepted buffer first second lb lf ls C =
