@@ -14,7 +14,7 @@ use Rattle.modular.proofs.Words.{left-true, right-true}
 use Rattle.refusals.specs.Table.{TableRow, row, firstRow}
 use Rattle.refusals.proofs.Table.{Numbered, none, next, numbered-append, row-none, first-none}
 use Rattle.poseidon2.specs.Statements.{Width}
-use Rattle.parameters.specs.Rows.{badWidth, badNodeSize, badFullRounds, badPartialRounds, badHeight, constantCount, badLengths, hasZero, badDiagonal, numberRows, listRows, validationRows}
+use Rattle.parameters.specs.Rows.{badWidth, badNodeSize, badFullRounds, badPartialRounds, badHeight, constantCount, badLengths, hasZero, badDiagonal, numberRows, shapeRows, listRows, validationRows}
 use Rattle.parameters.specs.ParameterSet.{heldRows, setRows}
 use Rattle.parameters.specs.declared.ParameterSet.{ParameterSet}
 
@@ -138,14 +138,28 @@ pub set-numbered : (p : ℕ) (s : ParameterSet) → Numbered (setRows p s)
 unfolding setRows heldRows
 set-numbered p s = numbered-append (numbers-numbered _ _ _ _ _) (lists-numbered p _ _)
 
--- The lists of a set that validation accepts have the places that the set has for them.
-pub lists-fit : (p t l h rf rp : ℕ) (D C : List ℕ) → firstRow (validationRows p t l h rf rp D C) ≡ 0 → (length D ≤ 12) × (length C ≤ 208)
-unfolding validationRows badLengths
-lists-fit p t l h rf rp D C e =
-    let n = first-none (numberRows t l h rf rp) (row 6 (badLengths t rf rp D C) ∷ listRows p D C) (numbers-numbered t l h rf rp) e in
+pub shape-numbered : (t l h rf rp : ℕ) (D C : List ℕ) → Numbered (shapeRows t l h rf rp D C)
+unfolding shapeRows
+shape-numbered t l h rf rp D C = numbered-append (numbers-numbered _ _ _ _ _) (next (lit< tt) none)
+
+-- Validation goes by the shape's rows, then by the lists'.
+pub shape-first : (p t l h rf rp : ℕ) (D C : List ℕ) → validationRows p t l h rf rp D C ≡ shapeRows t l h rf rp D C ++ listRows p D C
+unfolding validationRows shapeRows numberRows
+shape-first p t l h rf rp D C = refl
+
+-- The lists of a set that is held have the places that the set has for them.
+pub shape-fits : (t l h rf rp : ℕ) (D C : List ℕ) → firstRow (shapeRows t l h rf rp D C) ≡ 0 → (length D ≤ 12) × (length C ≤ 208)
+unfolding shapeRows badLengths
+shape-fits t l h rf rp D C e =
+    let n = first-none (numberRows t l h rf rp) (row 6 (badLengths t rf rp D C) ∷ []) (numbers-numbered t l h rf rp) e in
     let N = numbers-of t l h rf rp (n .0) in
-    let r6 = row-none 5 (badLengths t rf rp D C) (listRows p D C) (n .1) in
+    let r6 = row-none 5 (badLengths t rf rp D C) [] (n .1) in
     let b = not-false (eqb (length D) t && eqb (length C) (constantCount t rf rp)) (r6 .0) in
     let d : length D ≡ t = eqb-true (length D) t (left-true (eqb (length D) t) (eqb (length C) (constantCount t rf rp)) b) in
     let c : length C ≡ constantCount t rf rp = eqb-true (length C) (constantCount t rf rp) (right-true (eqb (length D) t) (eqb (length C) (constantCount t rf rp)) b) in
     (omega (arith, width-fits t (N .width)), omega (arith, count-fits t l h rf rp N))
+
+pub lists-fit : (p t l h rf rp : ℕ) (D C : List ℕ) → firstRow (validationRows p t l h rf rp D C) ≡ 0 → (length D ≤ 12) × (length C ≤ 208)
+lists-fit p t l h rf rp D C e =
+    shape-fits t l h rf rp D C
+    (first-none (shapeRows t l h rf rp D C) (listRows p D C) (shape-numbered t l h rf rp D C) (sym (ap firstRow (shape-first p t l h rf rp D C)) ∙ e) .0)

@@ -5,7 +5,7 @@ use Prim.Native.Nat.{ℕ, _-_, _/_}
 use lib.Dec.{eqb}
 use lib.ListN.{length, take, replicate}
 use Rattle.refusals.specs.Table.{TableRow, firstRow}
-use Rattle.parameters.specs.Rows.{constantCount, numberRows, listRows, validationRows}
+use Rattle.parameters.specs.Rows.{constantCount, numberRows, shapeRows, listRows, validationRows}
 use Rattle.parameters.specs.declared.ParameterSet.{ParameterSet}
 use Rattle.parameters.specs.declared.Validation.{Validation}
 
@@ -39,6 +39,12 @@ refusal number = record {
     constants = replicate 208 0;
   };
 }
+
+-- A set that is held, not judged: a row from 1 to 6, or 0 and the set.
+unfoldable pub holding : ℕ → ℕ → ℕ → ℕ → ℕ → List ℕ → List ℕ → Validation
+holding t l h rf rp D C =
+    let number = firstRow (shapeRows t l h rf rp D C) in
+    cond (eqb number 0) (record { number = 0; parameters = held t l h rf rp D C }) (refusal number)
 
 -- What validation answers: the first row that applies, or 0 and the set.
 unfoldable pub validation : ℕ → ℕ → ℕ → ℕ → ℕ → ℕ → List ℕ → List ℕ → Validation

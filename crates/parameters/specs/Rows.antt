@@ -62,6 +62,10 @@ listRows p D C =
     row 8 (hasZero D) ∷
     row 9 (badDiagonal p D) ∷ []
 
+-- The rows of the five numbers and of the lists' lengths: those that a set has to pass to be held at all.
+unfoldable pub shapeRows : ℕ → ℕ → ℕ → ℕ → ℕ → List ℕ → List ℕ → List TableRow
+shapeRows t l h rf rp D C = numberRows t l h rf rp ++ (row 6 (badLengths t rf rp D C) ∷ [])
+
 -- The rows by which validation goes: of the five numbers, of the lists' lengths, of the lists.
 unfoldable pub validationRows : ℕ → ℕ → ℕ → ℕ → ℕ → ℕ → List ℕ → List ℕ → List TableRow
 validationRows p t l h rf rp D C = numberRows t l h rf rp ++ (row 6 (badLengths t rf rp D C) ∷ listRows p D C)

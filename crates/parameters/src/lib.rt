@@ -6,8 +6,8 @@ ghost use lib.ListN.{length};
 ghost use Rattle.modular.specs.Arithmetic.{allWords};
 ghost use Rattle.modular.specs.Goldilocks.{p};
 ghost use Rattle.refusals.specs.Table.{firstRow};
-ghost use Rattle.parameters.specs.ParameterSet.{padded, refusal, validation, heldRows};
-ghost use Rattle.parameters.specs.Rows.{badWidth, badNodeSize, badFullRounds, badPartialRounds, badHeight, badLengths, hasZero, badDiagonal, numberRows, listRows, validationRows};
+ghost use Rattle.parameters.specs.ParameterSet.{padded, held, refusal, holding, validation, heldRows};
+ghost use Rattle.parameters.specs.Rows.{badWidth, badNodeSize, badFullRounds, badPartialRounds, badHeight, badLengths, hasZero, badDiagonal, numberRows, shapeRows, listRows, validationRows};
 
 const P: u64 = 18446744069414584321;
 
@@ -215,8 +215,30 @@ fn bad_lengths(
     false
 }
 
+// The first of rows 1 to 6 that applies, or 0.
+fn row_of_shape(
+    width: u64,
+    node_size: u64,
+    height: u64,
+    full_rounds: u64,
+    partial_rounds: u64,
+    diagonal: &[u64],
+    constants: &[u64],
+) -> u8
+    ensures { λ r. ⌜ r ≡ firstRow (shapeRows width «node_size» height «full_rounds» «partial_rounds» (now (diagonal .entry)) (now (constants .entry))) ⌝ }
+{
+    let row = row_of_numbers(width, node_size, height, full_rounds, partial_rounds);
+    if row != 0 {
+        return row;
+    }
+    if bad_lengths(width, full_rounds, partial_rounds, diagonal, constants) {
+        return 6;
+    }
+    0
+}
+
 // The first of rows 1 to 9 that applies, or 0.
-fn row_of(
+pub fn row_of(
     width: u64,
     node_size: u64,
     height: u64,
@@ -227,12 +249,17 @@ fn row_of(
 ) -> u8
     ensures { λ r. ⌜ r ≡ firstRow (validationRows p width «node_size» height «full_rounds» «partial_rounds» (now (diagonal .entry)) (now (constants .entry))) ⌝ }
 {
-    let row = row_of_numbers(width, node_size, height, full_rounds, partial_rounds);
+    let row = row_of_shape(
+        width,
+        node_size,
+        height,
+        full_rounds,
+        partial_rounds,
+        diagonal,
+        constants,
+    );
     if row != 0 {
         return row;
-    }
-    if bad_lengths(width, full_rounds, partial_rounds, diagonal, constants) {
-        return 6;
     }
     row_of_lists(diagonal, constants)
 }
@@ -282,6 +309,68 @@ fn refused(number: u8) -> Validation
     }
 }
 
+// The set of these numbers and lists, where its places hold them.
+fn set_of(
+    width: u64,
+    node_size: u64,
+    height: u64,
+    full_rounds: u64,
+    partial_rounds: u64,
+    diagonal: &[u64],
+    constants: &[u64],
+) -> Validation
+    requires { ⌜ (length (now diagonal) ≤ 12) × (length (now constants) ≤ 208) ⌝ }
+    ensures { λ r. ⌜ r ≡ record { number = 0; parameters = held width «node_size» height «full_rounds» «partial_rounds» (now (diagonal .entry)) (now (constants .entry)) } ⌝ }
+{
+    Validation {
+        number: 0,
+        parameters: ParameterSet {
+            width: width,
+            node_size: node_size,
+            height: height,
+            full_rounds: full_rounds,
+            partial_rounds: partial_rounds,
+            diagonal: hold_diagonal(diagonal),
+            constants: hold_constants(constants),
+        },
+    }
+}
+
+// The row from 1 to 6 that turns these numbers and lists down, or the set that holds them, for an entry to judge.
+pub fn hold(
+    width: u64,
+    node_size: u64,
+    height: u64,
+    full_rounds: u64,
+    partial_rounds: u64,
+    diagonal: &[u64],
+    constants: &[u64],
+) -> Validation
+    ensures { λ r. ⌜ r ≡ holding width «node_size» height «full_rounds» «partial_rounds» (now (diagonal .entry)) (now (constants .entry)) ⌝ }
+{
+    let number = row_of_shape(
+        width,
+        node_size,
+        height,
+        full_rounds,
+        partial_rounds,
+        diagonal,
+        constants,
+    );
+    if number != 0 {
+        return refused(number);
+    }
+    set_of(
+        width,
+        node_size,
+        height,
+        full_rounds,
+        partial_rounds,
+        diagonal,
+        constants,
+    )
+}
+
 // The row that turns these numbers and lists down, or the set that holds them.
 pub fn validate(
     width: u64,
@@ -306,18 +395,15 @@ pub fn validate(
     if number != 0 {
         return refused(number);
     }
-    Validation {
-        number: 0,
-        parameters: ParameterSet {
-            width: width,
-            node_size: node_size,
-            height: height,
-            full_rounds: full_rounds,
-            partial_rounds: partial_rounds,
-            diagonal: hold_diagonal(diagonal),
-            constants: hold_constants(constants),
-        },
-    }
+    set_of(
+        width,
+        node_size,
+        height,
+        full_rounds,
+        partial_rounds,
+        diagonal,
+        constants,
+    )
 }
 
 // The first of the rows that applies to a set that is handed in, or 0. Its places beyond the used ones are not read.

@@ -1,51 +1,28 @@
-use mathlib.Core.Path.{_≡_, sym, _∙_}
+use mathlib.Core.Path.{_≡_, sym, ap, _∙_}
 use borrow.Author.Needs.{needs}
-use Rattle.refusals.proofs.Table.{row-applies, row-passes, first-front, first-back}
-use Rattle.parameters.specs.Rows.{validationRows}
-use Rattle.parameters.proofs.Accepted.{numbers-of, numbers-numbered, width-fits}
+use Rattle.refusals.specs.Table.{firstRow}
+use Rattle.refusals.proofs.Table.{first-front, first-back}
+use Rattle.parameters.proofs.Accepted.{shape-numbered, shape-first}
 use Rattle.parameters.proofs.row_of.Statement.{statement}
 use Rattle.parameters.proofs.row_of.Tie as tie
 
-row-of-numbers-requires : tie.Need-row-of-numbers-requires
-row-of-numbers-requires c κs = search needs
+row-of-shape-requires : tie.Need-row-of-shape-requires
+row-of-shape-requires c κs = search needs
 
 returns : tie.Need-returns
-unfolding validationRows
 returns c =
-    let e = c .before .row-of-numbers .ensures in
-    e ∙ sym (first-front _ _ (λ z. c .if1 .taken (e ∙ z)))
-
-bad-lengths-requires : tie.Need-bad-lengths-requires
-bad-lengths-requires c κs =
-    let N = numbers-of _ _ _ _ _ (sym (c .before .row-of-numbers .ensures) ∙ c .if1 .left) in
-    (width-fits _ (N .width), N .rounds .few, N .rounds .fewPartial)
-
-returns-2 : tie.Need-returns-2
-unfolding validationRows
-returns-2 c =
-    let n = c .before .before in
-    sym (first-back _ _ (numbers-numbered _ _ _ _ _) (sym (n .before .row-of-numbers .ensures) ∙ n .if1 .left)
-    ∙ row-applies 6 _ _ (sym (c .before .bad-lengths .ensures) ∙ c .if2 .taken))
+    let e = c .before .row-of-shape .ensures in
+    e ∙ sym (ap firstRow (shape-first _ _ _ _ _ _ _ _) ∙ first-front _ _ (λ z. c .if1 .taken (e ∙ z)))
 
 row-of-lists-requires : tie.Need-row-of-lists-requires
 row-of-lists-requires c κs = search needs
 
-returns-3 : tie.Need-returns-3
-unfolding validationRows
-returns-3 c =
-    let l = c .before in
-    let n = l .before .before in
+returns-2 : tie.Need-returns-2
+returns-2 c =
+    let s = c .before in
     c .row-of-lists .ensures
-    ∙ sym (first-back _ _ (numbers-numbered _ _ _ _ _) (sym (n .before .row-of-numbers .ensures) ∙ n .if1 .left)
-    ∙ row-passes 6 _ _ (sym (l .before .bad-lengths .ensures) ∙ l .if2 .left))
+    ∙ sym (ap firstRow (shape-first _ _ _ _ _ _ _ _)
+    ∙ first-back _ _ (shape-numbered _ _ _ _ _ _ _) (sym (s .before .row-of-shape .ensures) ∙ s .if1 .left))
 
 pub row-of-spec : {M : Type 1} → statement M
-row-of-spec =
-    tie.close
-    (tie.spec
-    row-of-numbers-requires
-    returns
-    bad-lengths-requires
-    returns-2
-    row-of-lists-requires
-    returns-3)
+row-of-spec = tie.close (tie.spec row-of-shape-requires returns row-of-lists-requires returns-2)
