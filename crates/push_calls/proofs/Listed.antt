@@ -1,16 +1,13 @@
--- Records of a list of numbers, and an array that is filled with them, one after the other.
+-- An array that is filled with the records of a list of numbers, one after the other.
 use mathlib.Core.Path.{_≡_, refl, sym, ap, subst, _∙_}
 use mathlib.Core.List.{List, [], _∷_, _++_}
-use Prim.Native.Nat.{ℕ, suc, _+_, _-_, _/_, _<_, min}
+use Prim.Native.Nat.{ℕ, suc, _+_, _/_, _<_, min}
 use native.Mathlib.Numerals.{add-one}
-use lib.ListN.{length, take, drop, set, length-drop, length-set}
-use lib.Seq.{take-length, take-suc-set}
+use lib.ListN.{length, take, set, length-set}
+use lib.Seq.{take-suc-set}
 use Rattle.pushes.specs.declared.record.Record.{Record}
-use Rattle.push_calls.specs.Listed.{recordAt, recordsOf, listed}
-
--- a slice from i on, as its code takes it
-pub from-on : (ns : List ℕ) (i : ℕ) → take (length ns - i) (drop i ns) ≡ drop i ns
-from-on ns i = subst (λ (n : ℕ). take n (drop i ns) ≡ drop i ns) (length-drop i ns) (take-length (drop i ns))
+use Rattle.listed_pushes.specs.Listed.{recordAt, recordsOf}
+use Rattle.push_calls.specs.Listed.{firstSixteen}
 
 -- the first i are there
 pub record Filled (ns : List ℕ) (rs : List Record) (i : ℕ) : Type 0 where
@@ -31,6 +28,6 @@ filled-next ns rs i r below e F = record {
   sofar = subst (λ (n : ℕ). take n (set rs i r) ≡ recordsOf ns n) (sym (add-one i)) (filled-suc ns rs i r below e F);
 }
 
-pub filled-all : (ns : List ℕ) (rs : List Record) (i : ℕ) → i ≡ min 16 (length ns / 7) → Filled ns rs i → take i rs ≡ listed ns
-unfolding listed
+pub filled-all : (ns : List ℕ) (rs : List Record) (i : ℕ) → i ≡ min 16 (length ns / 7) → Filled ns rs i → take i rs ≡ firstSixteen ns
+unfolding firstSixteen
 filled-all ns rs i e F = F .sofar ∙ ap (recordsOf ns) e

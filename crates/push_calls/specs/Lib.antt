@@ -1,2 +1,2 @@
--- Records read from a flat list of numbers.
+-- The first records of a flat list of numbers.
 pub mod Listed

@@ -1,11 +1,11 @@
 // Pushes for callers that cannot lend a list of records: the records are passed by value, or as numbers.
 ghost use mathlib.Core.Path.{_≡_};
-ghost use Prim.Native.Nat.{_+_, _*_, _≤_, _/_, min};
-ghost use lib.ListN.{length, getD, take};
+ghost use Prim.Native.Nat.{_≤_, _/_, min};
+ghost use lib.ListN.{length, take};
 ghost use Rattle.modular.specs.Goldilocks.{p};
 ghost use Rattle.change_entries.specs.Replacement.{changedReply};
 ghost use Rattle.pushes.specs.Pushes.{pushReply, pushed};
-ghost use Rattle.push_calls.specs.Listed.{recordOf, recordAt, listed};
+ghost use Rattle.push_calls.specs.Listed.{firstSixteen};
 use change_entries::Changed;
 use parameters::ParameterSet;
 use pushes::Record;
@@ -24,43 +24,6 @@ pub fn push_first(
     pushes::push(set, store, &records[..count])
 }
 
-fn number_at(numbers: &[u64], i: usize) -> u64
-    ensures { λ r. ⌜ r ≡ getD (now (numbers .entry)) i 0 ⌝ }
-{
-    if i < numbers.len() {
-        return numbers[i];
-    }
-    0
-}
-
-// A record of the first six words, with 0 for those that are not there.
-pub fn record_of(place: u64, words: &[u64]) -> Record
-    ensures { λ r. ⌜ r ≡ recordOf place (now (words .entry)) ⌝ }
-{
-    let six = [
-        number_at(words, 0),
-        number_at(words, 1),
-        number_at(words, 2),
-        number_at(words, 3),
-        number_at(words, 4),
-        number_at(words, 5),
-    ];
-    Record {
-        place: place,
-        words: six,
-    }
-}
-
-// Record i of a list with seven numbers for each: a place, then six words.
-fn record_at(numbers: &[u64], i: usize) -> Record
-    requires { ⌜ i * 7 + 7 ≤ length (now numbers) ⌝ }
-    ensures { λ r. ⌜ r ≡ recordAt (now (numbers .entry)) i ⌝ }
-{
-    let at = i * 7;
-    let start = at + 1;
-    record_of(numbers[at], &numbers[start..])
-}
-
 fn record_count(numbers: &[u64]) -> usize
     ensures { λ r. ⌜ r ≡ min 16 (length (now (numbers .entry)) / 7) ⌝ }
 {
@@ -71,10 +34,10 @@ fn record_count(numbers: &[u64]) -> usize
     16
 }
 
-// A push of the records of such a list, at most sixteen.
+// A push of the records of a list with seven numbers for each, at most sixteen.
 pub fn push_list(set: ParameterSet, store: &mut [u64], numbers: &[u64]) -> Changed
-    ensures { λ r. ⌜ (changedReply r ≡ pushReply p set (now (store .entry)) (listed (now (numbers .entry))))
-        × (now (store .exit) ≡ pushed p set (now (store .entry)) (listed (now (numbers .entry)))) ⌝ }
+    ensures { λ r. ⌜ (changedReply r ≡ pushReply p set (now (store .entry)) (firstSixteen (now (numbers .entry))))
+        × (now (store .exit) ≡ pushed p set (now (store .entry)) (firstSixteen (now (numbers .entry)))) ⌝ }
 {
     let count = record_count(numbers);
     let blank = Record {
@@ -84,7 +47,7 @@ pub fn push_list(set: ParameterSet, store: &mut [u64], numbers: &[u64]) -> Chang
     let mut records = [blank; 16];
     let mut i: usize = 0;
     while i < count {
-        let next = record_at(numbers, i);
+        let next = listed_pushes::record_at(numbers, i);
         records[i] = next;
         i += 1;
     }

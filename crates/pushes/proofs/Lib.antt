@@ -1,6 +1,6 @@
 -- The laws of the passes, and what the proofs of the walked functions cite.
 mod Records
-mod Turns
-mod Passes
+pub mod Turns
+pub mod Passes
 mod Lending
 mod Values

@@ -1,8 +1,8 @@
 // Pushes: lent lists of replacement records.
 mod pushing;
 pub mod record;
-mod steps;
-mod tally;
+pub mod steps;
+pub mod tally;
 
 pub use pushing::push;
 pub use record::Record;

@@ -6,7 +6,7 @@ use lib.ListN.{take}
 use borrow.Author.Needs.{needs}
 use Rattle.modular.specs.Goldilocks.{p}
 use Rattle.pushes.specs.Pushes.{pushReply, pushed}
-use Rattle.push_calls.specs.Listed.{listed}
+use Rattle.push_calls.specs.Listed.{firstSixteen}
 use Rattle.push_calls.proofs.Listed.{Filled, filled-none, filled-next, filled-all}
 use Rattle.push_calls.proofs.push_list.Statement.{statement}
 use Rattle.push_calls.proofs.push_list.Tie as tie
@@ -56,7 +56,7 @@ returns c =
     let a = l .before .before .before .before .args in
     let n = l .before .record-count .result in
     let e : n ≡ l .loop .i = omega (arith, l .loop .inv .0) in
-    let g : take n (l .loop .records) ≡ listed (a .numbers .now) =
+    let g : take n (l .loop .records) ≡ firstSixteen (a .numbers .now) =
     ap (λ (k : ℕ). take k (l .loop .records)) e ∙ filled-all _ _ _ (sym e ∙ l .before .record-count .ensures) (l .loop .inv .1) in
     (f .push-first .ensures .0 ∙ ap (pushReply p (a .set) (a .store .now)) g, f .push-first .ensures .1 ∙ ap (pushed p (a .set) (a .store .now)) g)
 

@@ -1,9 +1,9 @@
 use mathlib.Core.Path.{ap, _∙_}
 use borrow.Author.Needs.{needs}
-use Rattle.push_calls.specs.Listed.{recordOf, recordAt}
-use Rattle.push_calls.proofs.Listed.{from-on}
-use Rattle.push_calls.proofs.record_at.Statement.{statement}
-use Rattle.push_calls.proofs.record_at.Tie as tie
+use Rattle.listed_pushes.specs.Listed.{recordOf, recordAt}
+use Rattle.listed_pushes.proofs.Listed.{from-on}
+use Rattle.listed_pushes.proofs.record_at.Statement.{statement}
+use Rattle.listed_pushes.proofs.record_at.Tie as tie
 
 mul-at : tie.Need-mul-at
 mul-at c = search needs

@@ -1,7 +1,7 @@
 use mathlib.Core.List.{[], _∷_}
 use borrow.Author.Needs.{needs}
-use Rattle.push_calls.proofs.record_of.Statement.{statement}
-use Rattle.push_calls.proofs.record_of.Tie as tie
+use Rattle.listed_pushes.proofs.record_of.Statement.{statement}
+use Rattle.listed_pushes.proofs.record_of.Tie as tie
 
 number-at-requires : tie.Need-number-at-requires
 number-at-requires c κs = search needs

@@ -1,8 +1,8 @@
 use mathlib.Core.Path.{sym}
 use lib.ListN.{List·getD-eq-default}
 use borrow.Author.Needs.{needs}
-use Rattle.push_calls.proofs.number_at.Statement.{statement}
-use Rattle.push_calls.proofs.number_at.Tie as tie
+use Rattle.listed_pushes.proofs.number_at.Statement.{statement}
+use Rattle.listed_pushes.proofs.number_at.Tie as tie
 
 mul-result : tie.Need-mul-result
 mul-result c = search needs

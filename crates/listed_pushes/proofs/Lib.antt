@@ -1,0 +1,3 @@
+-- The records of a list, and the push of them.
+mod Listed
+mod Pushes
