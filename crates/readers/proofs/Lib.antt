@@ -1,2 +1,3 @@
--- The laws of readings.
+-- The laws of readings and of copies.
 pub mod Readings
+pub mod Copying

@@ -1,2 +1,3 @@
--- What an opening reader hands back.
+-- What an opening reader hands back, and what it copies.
 pub mod Readers
+pub mod Copies

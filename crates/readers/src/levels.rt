@@ -13,7 +13,7 @@ use parameters::ParameterSet;
 use tree_entries::sizes;
 
 // A level's siblings: one node fewer than a row.
-fn part_size(arity: usize, node_size: usize) -> usize
+pub fn part_size(arity: usize, node_size: usize) -> usize
     requires { ⌜ (1 ≤ arity) × (arity ≤ 12) × («node_size» ≤ 12) ⌝ }
     ensures { λ r. ⌜ r ≡ (arity - 1) * «node_size» ⌝ }
 {
@@ -31,7 +31,7 @@ fn cut<'a>(siblings: &'a [u64], size: usize, level: usize) -> &'a [u64]
 }
 
 // The part of one level, where the lengths and the level are right.
-fn words_at<'a>(set: ParameterSet, siblings: &'a [u64], level: u64) -> &'a [u64]
+pub fn words_at<'a>(set: ParameterSet, siblings: &'a [u64], level: u64) -> &'a [u64]
     requires { ⌜ (firstRow (setRows p set) ≡ 0) × (length (now siblings) ≡ openingWords p set) × (level < set .height) ⌝ }
     ensures { λ r. ⌜ now r ≡ siblingsAt (treeOf p set) (now (siblings .entry)) level ⌝ }
 {

@@ -1,0 +1,58 @@
+use mathlib.Core.Path.{_≡_, sym, ap, _∙_}
+use mathlib.Core.List.{[]}
+use native.Mathlib.Omega.{arith}
+use lib.ListN.{length}
+use borrow.Author.Needs.{needs}
+use Rattle.modular.specs.Goldilocks.{p}
+use Rattle.refusals.proofs.Table.{refused-equations, done-equations}
+use Rattle.state_entries.specs.Permutation.{outcomeReply}
+use Rattle.readers.specs.Copies.{copyRows, copyReply, copied}
+use Rattle.readers.proofs.Copying.{Passed, numbered, passed-rows, part-long, whole-copy}
+use Rattle.readers.proofs.copies.copy_level.Statement.{statement}
+use Rattle.readers.proofs.copies.copy_level.Tie as tie
+
+row-of-copy-requires : tie.Need-row-of-copy-requires
+row-of-copy-requires c κs = search needs
+
+same-length : tie.Need-same-length
+same-length c = search needs
+
+returns : tie.Need-returns
+unfolding outcomeReply copyReply copied
+returns c = refused-equations (copyRows p _ _ _ _) [] _ _ _ (c .before .row-of-copy .ensures) (c .if1 .taken)
+
+passes : (c : tie.Else1) → Passed (c .before .before .before .before .before .args .set) (c .before .before .before .before .before .args .siblings .now) (c .before .before .before .before .before .args .level) (c .before .before .before .before .before .args .buffer .now)
+passes c = passed-rows _ _ _ _ (sym (c .before .row-of-copy .ensures) ∙ c .if1 .left)
+
+words-at-requires : tie.Need-words-at-requires
+words-at-requires c κs = (passes c .set, passes c .long, passes c .level)
+
+-- the words handed back are as many as the buffer holds
+words-long : (c : tie.After-words-at) → length (c .words-at .result .now) ≡ length (c .before .before .before .before .before .before .args .buffer .now)
+words-long c = ap length (c .words-at .ensures) ∙ part-long _ _ _ _ (passes (c .before))
+
+copy-words-requires : tie.Need-copy-words-requires
+copy-words-requires c κs = (omega arith, omega (arith, words-long (c .before)))
+
+same-length-2 : tie.Need-same-length-2
+same-length-2 c = search needs
+
+returns-2 : tie.Need-returns-2
+unfolding outcomeReply copyReply copied
+returns-2 c =
+    let w = c .before .before in
+    let x = w .before .before in
+    let e = done-equations (copyRows p _ _ _ _) [] _ _ (numbered _ _ _ _) (sym (x .before .before .row-of-copy .ensures) ∙ x .before .if1 .left) in
+    (e .0, w .copy-words .ensures ∙ whole-copy _ _ (words-long x) ∙ x .words-at .ensures ∙ e .1)
+
+pub copy-level-spec : {M : Type 1} → statement M
+copy-level-spec =
+    tie.close
+    (tie.spec
+    row-of-copy-requires
+    same-length
+    returns
+    words-at-requires
+    copy-words-requires
+    same-length-2
+    returns-2)
