@@ -1,0 +1,17 @@
+-- What the functions for C do with a set that is handed in as five numbers and two lists: a row from 1 to 6 turns these down, with every
+-- buffer as it was, or the entry is called with the set that holds them. `v` is `holding` of what is handed in.
+use mathlib.Core.Bool.{cond}
+use mathlib.Core.List.{List}
+use Prim.Native.Nat.{ℕ}
+use lib.Dec.{eqb}
+use Rattle.refusals.specs.Table.{Reply, refused}
+use Rattle.parameters.specs.declared.ParameterSet.{ParameterSet}
+use Rattle.parameters.specs.declared.Validation.{Validation}
+
+-- the reply, of the entry's
+unfoldable pub through : Validation → (ParameterSet → Reply) → Reply
+through v entry = cond (eqb (v .number) 0) (entry (v .parameters)) (refused (v .number))
+
+-- what a buffer holds afterwards, of what the entry leaves in it and what it held
+unfoldable pub leaving : Validation → (ParameterSet → List ℕ) → List ℕ → List ℕ
+leaving v work old = cond (eqb (v .number) 0) (work (v .parameters)) old

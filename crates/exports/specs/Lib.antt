@@ -1,0 +1,2 @@
+-- What the functions for C return and leave.
+pub mod Exports

@@ -1,0 +1,2 @@
+-- What an entry answers, as numbers.
+pub mod Replies
