@@ -1,16 +1,18 @@
 # make run: proves and builds the root program, and runs it on document 01's case: it prints 6 and 4.
+# make library: proves the library for C and Rust, and writes target/staticlib/libexports.a.
 # make test: the gate.
-# make bench: the benchmarks, beside Rust (needs rustc).
-.PHONY: run test bench
+# make bench: the benchmark, beside Rust (needs rustc): docs/BENCHMARK.md.
+.PHONY: run library test bench
 
 run:
 	rt check root
 	target/bin/root < crates/root/stdin
 
+library:
+	rt staticlib exports
+
 test:
 	bash .ci/run
 
 bench:
-	bench/run.sh permutation
-	bench/run.sh tree
-	bench/run.sh changes
+	bench/run.sh

@@ -13,9 +13,36 @@ pub fn seeded() -> impl FnMut() -> u64 {
     }
 }
 
+/// What the code of the trees asks of the arithmetic.
+pub trait Version {
+    /// Below 2^64, congruent to a * b + c.
+    fn mul_add(a: u64, b: u64, c: u64) -> u64;
+    /// The permutation of T words below p: D and C in their places, R_F, R_P.
+    fn permute<const T: usize>(s: &mut [u64; T], d: &[u64; 12], c: &[u64; 208], full: usize, partial: usize);
+}
+
+pub struct Plain;
+pub struct Tuned;
+
+/// The word of x.
 #[inline(always)]
-fn residue(x: u64) -> u64 {
-    if x >= P { x - P } else { x }
+pub fn residue(x: u64) -> u64 {
+    if x >= P {
+        x - P
+    } else {
+        x
+    }
+}
+
+/// The sum of two words.
+#[inline(always)]
+pub fn add(a: u64, b: u64) -> u64 {
+    let s = a as u128 + b as u128;
+    if s >= P as u128 {
+        (s - P as u128) as u64
+    } else {
+        s as u64
+    }
 }
 
 /// Below 2^64, congruent to x.
@@ -27,7 +54,11 @@ fn reduce(x: u128) -> u64 {
         rest = rest.wrapping_sub(EPSILON);
     }
     let (sum, carry) = rest.overflowing_add((high & EPSILON) * EPSILON);
-    if carry { sum.wrapping_add(EPSILON) } else { sum }
+    if carry {
+        sum.wrapping_add(EPSILON)
+    } else {
+        sum
+    }
 }
 
 /// The four sums of M4, on any kind of number.
@@ -43,14 +74,8 @@ macro_rules! m4 {
 }
 
 /// Words below p after every sum and product.
-pub mod plain {
+mod plain {
     use super::*;
-
-    #[inline(always)]
-    fn add(a: u64, b: u64) -> u64 {
-        let s = a as u128 + b as u128;
-        if s >= P as u128 { (s - P as u128) as u64 } else { s as u64 }
-    }
 
     #[inline(always)]
     fn mul(a: u64, b: u64) -> u64 {
@@ -78,8 +103,20 @@ pub mod plain {
         }
     }
 
+    impl Version for Plain {
+        #[inline(always)]
+        fn mul_add(a: u64, b: u64, c: u64) -> u64 {
+            add(mul(a, b), c)
+        }
+
+        #[inline(always)]
+        fn permute<const T: usize>(s: &mut [u64; T], d: &[u64; 12], c: &[u64; 208], full: usize, partial: usize) {
+            permute(s, d, c, full, partial)
+        }
+    }
+
     #[inline(never)]
-    pub fn permute<const T: usize>(s: &mut [u64; T], d: &[u64; 12], c: &[u64; 208], full: usize, partial: usize) {
+    fn permute<const T: usize>(s: &mut [u64; T], d: &[u64; 12], c: &[u64; 208], full: usize, partial: usize) {
         let mut k = 0;
         let fulls = |s: &mut [u64; T], k: &mut usize| {
             for _ in 0..full / 2 {
@@ -101,20 +138,28 @@ pub mod plain {
 }
 
 /// Lazy numbers: below 2^64, sums in u128, one reduction a word.
-pub mod tuned {
+mod tuned {
     use super::*;
 
     /// x below 2^96
     #[inline(always)]
     fn reduce_small(x: u128) -> u64 {
         let (sum, carry) = (x as u64).overflowing_add((x >> 64) as u64 * EPSILON);
-        if carry { sum.wrapping_add(EPSILON) } else { sum }
+        if carry {
+            sum.wrapping_add(EPSILON)
+        } else {
+            sum
+        }
     }
 
     #[inline(always)]
     fn add_word(a: u64, b: u64) -> u64 {
         let (sum, carry) = a.overflowing_add(b);
-        if carry { sum.wrapping_add(EPSILON) } else { sum }
+        if carry {
+            sum.wrapping_add(EPSILON)
+        } else {
+            sum
+        }
     }
 
     #[inline(always)]
@@ -134,7 +179,12 @@ pub mod tuned {
     fn external<const T: usize>(s: &mut [u64; T]) {
         let mut w = [0u128; T];
         for b in 0..T / 4 {
-            let x = [s[4 * b] as u128, s[4 * b + 1] as u128, s[4 * b + 2] as u128, s[4 * b + 3] as u128];
+            let x = [
+                s[4 * b] as u128,
+                s[4 * b + 1] as u128,
+                s[4 * b + 2] as u128,
+                s[4 * b + 3] as u128,
+            ];
             w[4 * b..4 * b + 4].copy_from_slice(&m4!(x, |a: u128, b: u128| a + b));
         }
         for j in 0..4 {
@@ -143,8 +193,20 @@ pub mod tuned {
         }
     }
 
+    impl Version for Tuned {
+        #[inline(always)]
+        fn mul_add(a: u64, b: u64, c: u64) -> u64 {
+            reduce(a as u128 * b as u128 + c as u128)
+        }
+
+        #[inline(always)]
+        fn permute<const T: usize>(s: &mut [u64; T], d: &[u64; 12], c: &[u64; 208], full: usize, partial: usize) {
+            permute(s, d, c, full, partial)
+        }
+    }
+
     #[inline(never)]
-    pub fn permute<const T: usize>(s: &mut [u64; T], d: &[u64; 12], c: &[u64; 208], full: usize, partial: usize) {
+    fn permute<const T: usize>(s: &mut [u64; T], d: &[u64; 12], c: &[u64; 208], full: usize, partial: usize) {
         let mut k = 0;
         external(s);
         for _ in 0..full / 2 {

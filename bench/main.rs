@@ -1,0 +1,246 @@
+//! The proved library beside Rust versions of the same work, in interleaved rounds of one run. `tuned` keeps lazy numbers below
+//! 2^64 and sums in u128; `plain` brings every sum and product below p. The program prints Markdown and writes two pictures to
+//! the folder that it is handed; a second argument `quick` makes it do a tenth of the rounds.
+mod charts;
+mod measure;
+mod picture;
+mod poseidon2;
+mod proved;
+mod report;
+mod trees;
+
+use charts::{Built, Growth};
+use measure::{Case, Times};
+use report::{Choice, Floor, Row};
+use trees::Sizes;
+
+/// Every width and node size, by falling width and rising arity.
+const SHAPES: [(usize, usize); 10] = [
+    (12, 6),
+    (12, 4),
+    (12, 3),
+    (12, 2),
+    (12, 1),
+    (8, 4),
+    (8, 2),
+    (8, 1),
+    (4, 2),
+    (4, 1),
+];
+/// Those whose every operation is measured.
+const MEASURED: [(usize, usize); 4] = [(12, 6), (12, 1), (8, 4), (4, 2)];
+/// The powers of two that trees are near to.
+const SIZES: [u32; 2] = [16, 20];
+/// What the second picture is of, and its heights.
+const GROWING: (usize, usize) = (12, 6);
+const HEIGHTS: [usize; 7] = [8, 10, 12, 14, 16, 18, 20];
+
+/// The most that proved/tuned is to be.
+const STORELESS_TARGET: f64 = 1.10;
+
+fn permutation_target(t: usize) -> f64 {
+    if t == 12 {
+        1.00
+    } else {
+        1.08
+    }
+}
+
+fn build_target(t: usize) -> f64 {
+    if t == 12 {
+        1.03
+    } else {
+        1.08
+    }
+}
+
+/// The height at which k^h is nearest to 2^size on a logarithmic scale.
+fn height_near(size: u32, arity: usize) -> usize {
+    (size as f64 / (arity as f64).log2()).round() as usize
+}
+
+/// What has been measured.
+struct Bench {
+    quick: bool,
+    rows: Vec<Row>,
+    floors: Vec<Floor>,
+    choices: Vec<Choice>,
+    builds: Vec<Built>,
+    growth: Vec<Growth>,
+}
+
+impl Bench {
+    fn rounds(&self, full: usize) -> usize {
+        if self.quick {
+            full.div_ceil(10)
+        } else {
+            full
+        }
+    }
+
+    fn add(&mut self, operation: &str, t: usize, l: Option<usize>, tree: Option<Sizes>, times: Times, target: Option<f64>) {
+        self.rows.push(Row {
+            operation: operation.to_string(),
+            t,
+            l,
+            tree,
+            times,
+            target,
+        });
+    }
+
+    /// A permutation, a compression and a validation.
+    fn states<const T: usize>(&mut self, draw: &mut impl FnMut() -> u64) {
+        let case = Case::<T>::new(T / 2, 16, draw);
+        let (n, l) = (self.rounds(300), Some(T / 2));
+        let target = permutation_target(T);
+        self.add("permutation, no validation", T, None, None, case.permutation(n), Some(target));
+        self.add("compression, no validation", T, l, None, case.bare_compression(n), None);
+        self.add("compress", T, l, None, case.compression(n), None);
+        self.add("validate", T, l, None, case.validation(n), None);
+    }
+
+    /// The trees of one shape near one size.
+    fn trees<const T: usize>(&mut self, l: usize, size: u32, draw: &mut impl FnMut() -> u64) {
+        let case = Case::<T>::new(l, height_near(size, T / l), draw);
+        let sizes = case.sizes;
+        eprintln!("t = {T}, l = {l}, h = {}", sizes.height);
+        let built = case.build(self.rounds(if size > 16 { 5 } else { 15 }));
+        let mut add = |operation, times, target| self.add(operation, T, Some(l), Some(sizes), times, target);
+        add("build", built, Some(build_target(T)));
+        self.builds.push(Built {
+            t: T,
+            l,
+            size,
+            leaf: built.proved / sizes.leaves as f64,
+        });
+        let (n, store) = (self.rounds(80), case.store());
+        let (verify, floor) = case.verify(n, &store);
+        let (open, replace) = (case.open(n, &store), case.replace(n, &store));
+        self.floors.push(Floor {
+            t: T,
+            l,
+            h: sizes.height,
+            verify: verify.proved,
+            floor,
+        });
+        if size > 16 {
+            let (build, open, verify, replace) = (built.proved, open.proved, verify.proved, replace.proved);
+            self.choices.push(Choice {
+                t: T,
+                l,
+                sizes,
+                build,
+                open,
+                verify,
+                replace,
+            });
+        }
+        if size == 16 {
+            let times = case.storeless_root(self.rounds(15));
+            self.add("storeless root", T, Some(l), Some(sizes), times, Some(STORELESS_TARGET));
+        }
+        if size == 16 && MEASURED.contains(&(T, l)) {
+            let (some, few) = (self.rounds(30), self.rounds(6));
+            let mut add = |operation, times, target| self.add(operation, T, Some(l), Some(sizes), times, target);
+            add("open", open, None);
+            add("verify", verify, None);
+            add("replace", replace, None);
+            add("push, 1 record", case.push(n, &store, 1, draw), None);
+            add("push, 100 records", case.push(some, &store, 100, draw), None);
+            add("push, 10,000 records", case.push(few, &store, 10_000, draw), None);
+        }
+    }
+
+    /// One shape at many heights, for the second picture.
+    fn growing(&mut self, draw: &mut impl FnMut() -> u64) {
+        const T: usize = GROWING.0;
+        for h in HEIGHTS {
+            eprintln!("t = {T}, l = {}, h = {h}", GROWING.1);
+            let case = Case::<T>::new(GROWING.1, h, draw);
+            let build = case.proved_build(self.rounds(if h > 16 { 4 } else { 20 }));
+            let (n, store) = (self.rounds(50), case.store());
+            let (open, replace) = (case.open(n, &store).proved, case.replace(n, &store).proved);
+            let verify = case.verify(n, &store).0.proved;
+            self.growth.push(Growth {
+                leaves: case.sizes.leaves,
+                build,
+                open,
+                verify,
+                replace,
+            });
+        }
+    }
+
+    fn print(mut self, load: String) {
+        let order = [
+            "permutation",
+            "compression",
+            "compress",
+            "validate",
+            "build",
+            "storeless",
+            "open",
+            "verify",
+            "replace",
+            "push",
+        ];
+        let place = |row: &Row| order.iter().position(|name| row.operation.starts_with(name));
+        self.rows.sort_by_key(|row| {
+            (
+                place(row),
+                row.operation.len(),
+                row.tree.is_some_and(|tree| tree.leaves > 1 << 18),
+            )
+        });
+        println!("- processor: {}", report::machine());
+        println!("- Rust: {}", option_env!("BENCH_RUSTC").unwrap_or("unknown"));
+        println!("- Rattle: {}", option_env!("BENCH_RT").unwrap_or("unknown"));
+        println!(
+            "- load averages of 1, 5 and 15 minutes: {load} at the start, {} at the end",
+            report::load()
+        );
+        println!("\n### Every operation\n");
+        report::print_rows(&self.rows);
+        println!("\n### Verification beside the work that it cannot do without\n");
+        report::print_floors(&self.floors);
+        println!("\n### To choose from, at about 2^20 leaves\n");
+        report::print_choices(&self.choices);
+    }
+}
+
+fn main() {
+    let arguments: Vec<String> = std::env::args().skip(1).collect();
+    let (folder, quick) = match &arguments[..] {
+        [folder] => (folder, false),
+        [folder, word] if word == "quick" => (folder, true),
+        _ => panic!("usage: bench FOLDER [quick]"),
+    };
+    let load = report::load();
+    let draw = &mut poseidon2::seeded();
+    let mut bench = Bench {
+        quick,
+        rows: vec![],
+        floors: vec![],
+        choices: vec![],
+        builds: vec![],
+        growth: vec![],
+    };
+    bench.states::<4>(draw);
+    bench.states::<8>(draw);
+    bench.states::<12>(draw);
+    for size in SIZES {
+        for (t, l) in SHAPES {
+            match t {
+                4 => bench.trees::<4>(l, size, draw),
+                8 => bench.trees::<8>(l, size, draw),
+                _ => bench.trees::<12>(l, size, draw),
+            }
+        }
+    }
+    bench.growing(draw);
+    let write = |name: &str, svg: String| std::fs::write(format!("{folder}/{name}"), svg).expect("the folder can be written");
+    write("arity.svg", charts::by_arity(&bench.builds, SIZES));
+    write("leaves.svg", charts::by_leaves(&bench.growth, GROWING));
+    bench.print(load);
+}

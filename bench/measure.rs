@@ -1,0 +1,300 @@
+//! One measurement of each operation: the proved version, the tuned and the plain one in interleaved rounds.
+use crate::poseidon2::{Plain, Tuned, Version};
+use crate::proved;
+use crate::trees::{self, Rounds, Set, Sizes, RECORD};
+use std::hint::black_box;
+
+/// R_F and R_P.
+pub const FULL: usize = 8;
+pub const PARTIAL: usize = 22;
+/// Calls in a round: of one permutation, compression or validation; of one verification or replacement.
+const STATE_CALLS: usize = 400;
+const TREE_CALLS: usize = 40;
+/// An opening takes little: a round opens each place so many times.
+const OPENINGS: usize = 10;
+
+/// The best times of the versions, in seconds a call.
+#[derive(Clone, Copy)]
+pub struct Times {
+    pub proved: f64,
+    pub tuned: f64,
+    pub plain: f64,
+}
+
+impl Times {
+    fn of(best: &[f64], calls: usize) -> Times {
+        let n = calls as f64;
+        Times {
+            proved: best[0] / n,
+            tuned: best[1] / n,
+            plain: best[2] / n,
+        }
+    }
+}
+
+/// The processor time that this thread has taken, in seconds.
+fn clock() -> f64 {
+    #[repr(C)]
+    struct Timespec {
+        seconds: i64,
+        nanoseconds: i64,
+    }
+    extern "C" {
+        fn clock_gettime(clock: i32, time: *mut Timespec) -> i32;
+    }
+    const THREAD: i32 = 3;
+    let mut time = Timespec {
+        seconds: 0,
+        nanoseconds: 0,
+    };
+    assert_eq!(unsafe { clock_gettime(THREAD, &mut time) }, 0);
+    time.seconds as f64 + time.nanoseconds as f64 * 1e-9
+}
+
+/// Times the versions in turn, round by round, and gives the best time of each. Each version has a buffer of its own; after every
+/// round the buffers must be equal.
+fn race<F: Copy, const N: usize>(
+    rounds: usize,
+    start: &[u64],
+    versions: [F; N],
+    work: impl Fn(F, usize, &mut [u64]),
+) -> [f64; N] {
+    let mut buffers: [Vec<u64>; N] = std::array::from_fn(|_| start.to_vec());
+    let mut best = [f64::MAX; N];
+    for round in 0..rounds {
+        for i in 0..N {
+            let begun = clock();
+            work(versions[i], round, &mut buffers[i]);
+            best[i] = best[i].min(clock() - begun);
+        }
+        assert!(buffers.windows(2).all(|two| two[0] == two[1]), "the versions differ");
+    }
+    best
+}
+
+// What the versions of an operation have in common. A call goes through a pointer, so that no version is joined with its caller.
+type Permute<const T: usize> = fn(&Rounds, &mut [u64; T]);
+type BareCompress<const T: usize> = fn(&Rounds, &[u64; T], &mut [u64]);
+type Validate = fn(&Set) -> u8;
+type Write = fn(&Set, &[u64], &mut [u64]) -> u8;
+type Open = fn(&Set, &[u64], u64, &mut [u64]) -> u8;
+type Verify<'a> = &'a dyn Fn(&Set, &[u64], u64, &[u64], &[u64]) -> u8;
+type Replace = fn(&Set, &mut [u64], u64, &[u64], &mut u64) -> u8;
+type Push = fn(&Set, &mut [u64], &[u64], &mut u64) -> u8;
+
+fn permute<V: Version, const T: usize>(rounds: &Rounds, state: &mut [u64; T]) {
+    V::permute(state, &rounds.diagonal, &rounds.constants, rounds.full, rounds.partial)
+}
+
+/// A set of seeded words, with leaves, and places with new leaves for them.
+pub struct Case<const T: usize> {
+    pub sizes: Sizes,
+    diagonal: Vec<u64>,
+    constants: Vec<u64>,
+    leaves: Vec<u64>,
+    places: Vec<u64>,
+    /// Six words for each place: one list for even rounds and one for odd, so that a change changes something.
+    changes: [Vec<u64>; 2],
+}
+
+impl<const T: usize> Case<T> {
+    pub fn new(l: usize, h: usize, draw: &mut impl FnMut() -> u64) -> Self {
+        let sizes = Sizes::new(T / l, l, h);
+        let mut list = |n: usize| (0..n).map(|_| draw()).collect::<Vec<u64>>();
+        let (diagonal, constants, leaves) = (list(T), list(T * FULL + PARTIAL), list(sizes.leaf_words()));
+        let places = list(TREE_CALLS).into_iter().map(|x| x % sizes.leaves as u64).collect();
+        Case {
+            sizes,
+            diagonal,
+            constants,
+            leaves,
+            places,
+            changes: [list(TREE_CALLS * 6), list(TREE_CALLS * 6)],
+        }
+    }
+
+    fn set(&self) -> Set<'_> {
+        Set {
+            width: T as u64,
+            node_size: self.sizes.node as u64,
+            height: self.sizes.height as u64,
+            full_rounds: FULL as u64,
+            partial_rounds: PARTIAL as u64,
+            diagonal: &self.diagonal,
+            constants: &self.constants,
+        }
+    }
+
+    /// The store of the leaves.
+    pub fn store(&self) -> Vec<u64> {
+        let mut store = vec![0; self.sizes.store_words()];
+        assert_eq!(proved::build(&self.set(), &self.leaves, &mut store), 0);
+        store
+    }
+
+    fn row(&self) -> [u64; T] {
+        std::array::from_fn(|i| self.leaves[i])
+    }
+
+    /// One permutation after another, without validation.
+    pub fn permutation(&self, rounds: usize) -> Times {
+        let held = Rounds::of(&self.set());
+        let versions: [Permute<T>; 3] = [proved::bare_permute, permute::<Tuned, T>, permute::<Plain, T>];
+        let best = race(rounds, &self.row(), versions, |version, _, buffer| {
+            let state: &mut [u64; T] = buffer.try_into().unwrap();
+            (0..STATE_CALLS).for_each(|_| version(black_box(&held), state));
+        });
+        Times::of(&best, STATE_CALLS)
+    }
+
+    /// One compression after another, without validation. The node goes to the front of the next row.
+    pub fn bare_compression(&self, rounds: usize) -> Times {
+        let held = Rounds::of(&self.set());
+        let versions: [BareCompress<T>; 3] = [
+            proved::bare_compress,
+            trees::bare_compress::<Tuned, T>,
+            trees::bare_compress::<Plain, T>,
+        ];
+        let best = race(rounds, &self.leaves[..self.sizes.node], versions, |version, _, node| {
+            let mut row = self.row();
+            for _ in 0..STATE_CALLS {
+                row[..node.len()].copy_from_slice(node);
+                version(black_box(&held), &row, node);
+            }
+        });
+        Times::of(&best, STATE_CALLS)
+    }
+
+    /// One compression after another, each with its validation.
+    pub fn compression(&self, rounds: usize) -> Times {
+        let versions: [Write; 3] = [proved::compress, trees::compress::<Tuned, T>, trees::compress::<Plain, T>];
+        let set = self.set();
+        let best = race(rounds, &self.leaves[..self.sizes.node], versions, |version, _, node| {
+            let mut row = self.row();
+            for _ in 0..STATE_CALLS {
+                row[..node.len()].copy_from_slice(node);
+                assert_eq!(version(black_box(&set), &row, node), 0);
+            }
+        });
+        Times::of(&best, STATE_CALLS)
+    }
+
+    pub fn validation(&self, rounds: usize) -> Times {
+        let versions: [Validate; 3] = [proved::validate, trees::validate::<Tuned>, trees::validate::<Plain>];
+        let set = self.set();
+        let best = race(rounds, &[], versions, |version, _, _| {
+            (0..STATE_CALLS).for_each(|_| assert_eq!(version(black_box(&set)), 0));
+        });
+        Times::of(&best, STATE_CALLS)
+    }
+
+    pub fn build(&self, rounds: usize) -> Times {
+        let versions: [Write; 3] = [proved::build, trees::build::<Tuned, T>, trees::build::<Plain, T>];
+        let set = self.set();
+        let best = race(rounds, &vec![1; self.sizes.store_words()], versions, |version, _, store| {
+            assert_eq!(version(black_box(&set), &self.leaves, store), 0);
+        });
+        Times::of(&best, 1)
+    }
+
+    /// The proved build by itself, in seconds.
+    pub fn proved_build(&self, rounds: usize) -> f64 {
+        let set = self.set();
+        let [best] = race(rounds, &vec![1; self.sizes.store_words()], [()], |_, _, store| {
+            assert_eq!(proved::build(&set, &self.leaves, store), 0);
+        });
+        best
+    }
+
+    pub fn storeless_root(&self, rounds: usize) -> Times {
+        let versions: [Write; 3] = [
+            proved::storeless_root,
+            trees::storeless_root::<Tuned, T>,
+            trees::storeless_root::<Plain, T>,
+        ];
+        let set = self.set();
+        let best = race(rounds, &vec![1; self.sizes.node], versions, |version, _, node| {
+            assert_eq!(version(black_box(&set), &self.leaves, node), 0);
+        });
+        Times::of(&best, 1)
+    }
+
+    pub fn open(&self, rounds: usize, store: &[u64]) -> Times {
+        let versions: [Open; 3] = [proved::open, trees::open::<Tuned, T>, trees::open::<Plain, T>];
+        let (set, words) = (self.set(), self.sizes.opening_words());
+        let best = race(rounds, &vec![1; TREE_CALLS * words], versions, |version, _, openings| {
+            for _ in 0..OPENINGS {
+                for (&place, siblings) in self.places.iter().zip(openings.chunks_exact_mut(words)) {
+                    assert_eq!(version(black_box(&set), store, place, siblings), 0);
+                }
+            }
+        });
+        Times::of(&best, TREE_CALLS * OPENINGS)
+    }
+
+    /// Verifications, and in the same rounds the proved work that each cannot do without: a validation and h compressions.
+    pub fn verify(&self, rounds: usize, store: &[u64]) -> (Times, f64) {
+        let (set, words, l) = (self.set(), self.sizes.opening_words(), self.sizes.node);
+        let mut openings = vec![0; TREE_CALLS * words];
+        for (&place, siblings) in self.places.iter().zip(openings.chunks_exact_mut(words)) {
+            assert_eq!(proved::open(&set, store, place, siblings), 0);
+        }
+        let held = Rounds::of(&set);
+        let floor = |set: &Set, _: &[u64], _: u64, leaf: &[u64], _: &[u64]| {
+            let (mut row, mut node) = (self.row(), [0; T]);
+            node[..l].copy_from_slice(leaf);
+            for _ in 0..self.sizes.height {
+                row[..l].copy_from_slice(&node[..l]);
+                proved::bare_compress(black_box(&held), &row, &mut node[..l]);
+            }
+            proved::validate(set)
+        };
+        let versions: [Verify; 4] = [
+            &proved::verify,
+            &trees::verify::<Tuned, T>,
+            &trees::verify::<Plain, T>,
+            &floor,
+        ];
+        let root = &store[store.len() - l..];
+        let best = race(rounds, &[], versions, |version, _, _| {
+            for (&place, siblings) in self.places.iter().zip(openings.chunks_exact(words)) {
+                let at = place as usize * l;
+                assert_eq!(version(black_box(&set), root, place, &store[at..at + l], siblings), 0);
+            }
+        });
+        (Times::of(&best, TREE_CALLS), best[3] / TREE_CALLS as f64)
+    }
+
+    pub fn replace(&self, rounds: usize, store: &[u64]) -> Times {
+        let versions: [Replace; 3] = [proved::replace, trees::replace::<Tuned, T>, trees::replace::<Plain, T>];
+        let (set, l) = (self.set(), self.sizes.node);
+        let best = race(rounds, store, versions, |version, round, store| {
+            for (&place, leaf) in self.places.iter().zip(self.changes[round % 2].chunks_exact(6)) {
+                let mut made = 0;
+                assert_eq!(version(black_box(&set), store, place, &leaf[..l], &mut made), 0);
+                assert_eq!(made, set.height);
+            }
+        });
+        Times::of(&best, TREE_CALLS)
+    }
+
+    /// A push of `count` records; the time is of the whole push.
+    pub fn push(&self, rounds: usize, store: &[u64], count: usize, draw: &mut impl FnMut() -> u64) -> Times {
+        let mut list = || {
+            let mut records: Vec<u64> = (0..count * RECORD).map(|_| draw()).collect();
+            records
+                .iter_mut()
+                .step_by(RECORD)
+                .for_each(|place| *place %= self.sizes.leaves as u64);
+            records
+        };
+        let (lists, set) = ([list(), list()], self.set());
+        let versions: [Push; 3] = [proved::push, trees::push::<Tuned, T>, trees::push::<Plain, T>];
+        let best = race(rounds, store, versions, |version, round, store| {
+            let mut made = 0;
+            assert_eq!(version(black_box(&set), store, &lists[round % 2], &mut made), 0);
+            assert_eq!(made, set.height * count as u64);
+        });
+        Times::of(&best, 1)
+    }
+}

@@ -1,0 +1,170 @@
+//! What the program prints: Markdown tables, and the machine.
+use crate::measure::Times;
+use crate::trees::Sizes;
+use std::fs::read_to_string;
+
+/// What one operation takes.
+pub struct Row {
+    pub operation: String,
+    pub t: usize,
+    pub l: Option<usize>,
+    pub tree: Option<Sizes>,
+    pub times: Times,
+    /// The most that proved/tuned is to be.
+    pub target: Option<f64>,
+}
+
+/// A verification beside the work that it cannot do without.
+pub struct Floor {
+    pub t: usize,
+    pub l: usize,
+    pub h: usize,
+    pub verify: f64,
+    /// h compressions and one validation.
+    pub floor: f64,
+}
+
+/// What there is to choose from, at about the same number of leaves.
+pub struct Choice {
+    pub t: usize,
+    pub l: usize,
+    pub sizes: Sizes,
+    pub build: f64,
+    pub open: f64,
+    pub verify: f64,
+    pub replace: f64,
+}
+
+const FLOOR_TARGET: f64 = 1.05;
+
+/// Three digits and a unit.
+pub fn time(seconds: f64) -> String {
+    let (value, unit) = match seconds {
+        s if s < 0.9995e-6 => (s * 1e9, "ns"),
+        s if s < 0.9995e-3 => (s * 1e6, "µs"),
+        s if s < 0.9995 => (s * 1e3, "ms"),
+        s => (s, "s"),
+    };
+    format!("{} {unit}", digits(value))
+}
+
+fn digits(value: f64) -> String {
+    match value {
+        v if v < 9.995 => format!("{v:.2}"),
+        v if v < 99.95 => format!("{v:.1}"),
+        v => grouped(v.round() as usize),
+    }
+}
+
+/// A number with commas between its thousands.
+pub fn grouped(n: usize) -> String {
+    if n < 1000 {
+        n.to_string()
+    } else {
+        format!("{},{:03}", grouped(n / 1000), n % 1000)
+    }
+}
+
+fn mark(ratio: f64, target: Option<f64>) -> String {
+    match target {
+        None => String::new(),
+        Some(most) if ratio <= most => format!("≤ {most:.2}"),
+        Some(most) => format!("≤ {most:.2} **missed**"),
+    }
+}
+
+fn or_blank(n: Option<usize>) -> String {
+    n.map_or(String::new(), grouped)
+}
+
+pub fn print_rows(rows: &[Row]) {
+    println!("| operation | t | l | h | leaves | proved | proved/tuned | proved/plain | target |");
+    println!("|---|--:|--:|--:|--:|--:|--:|--:|---|");
+    for r in rows {
+        let (l, h, leaves) = (
+            or_blank(r.l),
+            or_blank(r.tree.map(|s| s.height)),
+            or_blank(r.tree.map(|s| s.leaves)),
+        );
+        let Times { proved, tuned, plain } = r.times;
+        let (name, t, time, by_tuned, by_plain) = (&r.operation, r.t, time(proved), proved / tuned, proved / plain);
+        let target = mark(by_tuned, r.target);
+        println!("| {name} | {t} | {l} | {h} | {leaves} | {time} | {by_tuned:.3} | {by_plain:.3} | {target} |");
+    }
+    let aimed: Vec<(f64, f64)> = rows
+        .iter()
+        .filter_map(|r| Some((r.times.proved / r.times.tuned, r.target?)))
+        .collect();
+    print_met(&aimed);
+}
+
+/// How many ratios are at most what they are to be.
+fn print_met(ratios: &[(f64, f64)]) {
+    let met = ratios.iter().filter(|(ratio, most)| ratio <= most).count();
+    println!("\n{met} of {} targets met.", ratios.len());
+}
+
+pub fn print_floors(floors: &[Floor]) {
+    println!("| t | l | h | verify | h compressions and one validation | ratio | target |");
+    println!("|--:|--:|--:|--:|--:|--:|---|");
+    for f in floors {
+        let ratio = f.verify / f.floor;
+        let target = mark(ratio, Some(FLOOR_TARGET));
+        println!(
+            "| {} | {} | {} | {} | {} | {ratio:.3} | {target} |",
+            f.t,
+            f.l,
+            f.h,
+            time(f.verify),
+            time(f.floor)
+        );
+    }
+    print_met(&floors.iter().map(|f| (f.verify / f.floor, FLOOR_TARGET)).collect::<Vec<_>>());
+}
+
+pub fn print_choices(choices: &[Choice]) {
+    println!("| t | l | k | h | leaves | build | build, a leaf | store | opening | open | verify | replace |");
+    println!("|--:|--:|--:|--:|--:|--:|--:|--:|--:|--:|--:|--:|");
+    for c in choices {
+        let s = &c.sizes;
+        println!(
+            "| {} | {} | {} | {} | {} | {} | {} | {} MB | {} bytes | {} | {} | {} |",
+            c.t,
+            c.l,
+            s.arity,
+            s.height,
+            grouped(s.leaves),
+            time(c.build),
+            time(c.build / s.leaves as f64),
+            digits(s.store_words() as f64 * 8e-6),
+            grouped(s.opening_words() * 8),
+            time(c.open),
+            time(c.verify),
+            time(c.replace)
+        );
+    }
+}
+
+/// The processor, and how many of it there are.
+pub fn machine() -> String {
+    let info = read_to_string("/proc/cpuinfo").unwrap_or_default();
+    let field = |name: &str| {
+        let line = info.lines().find(|line| line.starts_with(name));
+        line.and_then(|line| line.split(':').nth(1))
+            .map_or("unknown", str::trim)
+            .to_string()
+    };
+    let count = info.lines().filter(|line| line.starts_with("processor")).count();
+    format!(
+        "{} (family {}, model {}), {count} processors",
+        field("model name"),
+        field("cpu family"),
+        field("model\t")
+    )
+}
+
+/// The load averages of the last 1, 5 and 15 minutes.
+pub fn load() -> String {
+    let line = read_to_string("/proc/loadavg").unwrap_or_default();
+    line.split_whitespace().take(3).collect::<Vec<_>>().join(" ")
+}

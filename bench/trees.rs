@@ -1,0 +1,385 @@
+//! The library's entries in Rust, over either version of the arithmetic. Each does what the proved entry does: it judges the set,
+//! tests lengths, places and words, and leaves every buffer as it was where it refuses. T is the width, known to the compiler.
+use crate::poseidon2::{add, residue, Version, P};
+
+/// A parameter set, as it is handed in.
+pub struct Set<'a> {
+    pub width: u64,
+    pub node_size: u64,
+    pub height: u64,
+    pub full_rounds: u64,
+    pub partial_rounds: u64,
+    pub diagonal: &'a [u64],
+    pub constants: &'a [u64],
+}
+
+pub const DONE: u8 = 0;
+pub const REJECTED: u8 = 255;
+pub const BAD_LENGTH: u8 = 10;
+pub const BAD_PLACE: u8 = 11;
+pub const NOT_A_WORD: u8 = 12;
+/// The numbers of a record: a place and six words.
+pub const RECORD: usize = 7;
+
+fn all_words(numbers: &[u64]) -> bool {
+    numbers.iter().all(|&x| x < P)
+}
+
+fn bad_height(arity: u64, height: u64) -> bool {
+    if height > 32 {
+        return true;
+    }
+    let mut leaves = 1u64;
+    for _ in 0..height {
+        leaves *= arity;
+        if leaves > 1 << 32 {
+            return true;
+        }
+    }
+    false
+}
+
+/// Whether 1 plus the inverses of all D is 0: that sum times the product of all D, without an inversion.
+fn bad_diagonal<V: Version>(diagonal: &[u64]) -> bool {
+    let (mut all, mut but_one) = (1, 0);
+    for &d in diagonal {
+        but_one = V::mul_add(but_one, d, all);
+        all = V::mul_add(all, d, 0);
+    }
+    add(residue(all), residue(but_one)) == 0
+}
+
+/// The number of the first refusal that applies to the set, or 0.
+#[inline(never)]
+pub fn validate<V: Version>(set: &Set) -> u8 {
+    let (t, l) = (set.width, set.node_size);
+    if t != 4 && t != 8 && t != 12 {
+        return 1;
+    }
+    if l == 0 || t % l != 0 || t / l < 2 {
+        return 2;
+    }
+    if set.full_rounds % 2 == 1 || set.full_rounds == 0 || set.full_rounds > 12 {
+        return 3;
+    }
+    if set.partial_rounds > 64 {
+        return 4;
+    }
+    if bad_height(t / l, set.height) {
+        return 5;
+    }
+    if set.diagonal.len() as u64 != t || set.constants.len() as u64 != t * set.full_rounds + set.partial_rounds {
+        return 6;
+    }
+    if !all_words(set.diagonal) || !all_words(set.constants) {
+        return 7;
+    }
+    if set.diagonal.contains(&0) {
+        return 8;
+    }
+    if bad_diagonal::<V>(set.diagonal) {
+        return 9;
+    }
+    DONE
+}
+
+/// The sizes of the tree of a set.
+#[derive(Clone, Copy)]
+pub struct Sizes {
+    pub arity: usize,
+    pub node: usize,
+    pub height: usize,
+    pub leaves: usize,
+    pub inner: usize,
+}
+
+impl Sizes {
+    pub fn new(arity: usize, node: usize, height: usize) -> Sizes {
+        let leaves = arity.pow(height as u32);
+        Sizes {
+            arity,
+            node,
+            height,
+            leaves,
+            inner: (leaves - 1) / (arity - 1),
+        }
+    }
+
+    fn of(set: &Set) -> Sizes {
+        Sizes::new(
+            (set.width / set.node_size) as usize,
+            set.node_size as usize,
+            set.height as usize,
+        )
+    }
+
+    pub fn leaf_words(&self) -> usize {
+        self.leaves * self.node
+    }
+
+    pub fn store_words(&self) -> usize {
+        (self.leaves + self.inner) * self.node
+    }
+
+    /// The siblings of one level.
+    fn beside(&self) -> usize {
+        (self.arity - 1) * self.node
+    }
+
+    pub fn opening_words(&self) -> usize {
+        self.height * self.beside()
+    }
+
+    /// Row and child of a node, by its number in the store; the node above it has the number `leaves` + row.
+    fn path(&self, place: usize) -> impl Iterator<Item = (usize, usize)> + '_ {
+        let mut number = place;
+        (0..self.height).map(move |_| {
+            let (row, child) = (number / self.arity, number % self.arity);
+            number = self.leaves + row;
+            (row, child)
+        })
+    }
+
+    /// The two parts of row n that are beside its child.
+    fn siblings<'a, const T: usize>(&self, store: &'a [u64], n: usize, child: usize) -> (&'a [u64], &'a [u64]) {
+        let row = &store[n * T..n * T + T];
+        (&row[..child * self.node], &row[(child + 1) * self.node..])
+    }
+
+    fn siblings_are_words<const T: usize>(&self, store: &[u64], place: usize) -> bool {
+        self.path(place).all(|(n, child)| {
+            let (before, behind) = self.siblings::<T>(store, n, child);
+            all_words(before) && all_words(behind)
+        })
+    }
+}
+
+/// The lists of a set in their places, and its rounds.
+pub struct Rounds {
+    pub diagonal: [u64; 12],
+    pub constants: [u64; 208],
+    pub full: usize,
+    pub partial: usize,
+}
+
+impl Rounds {
+    pub fn of(set: &Set) -> Rounds {
+        let (mut diagonal, mut constants) = ([0; 12], [0; 208]);
+        diagonal[..set.diagonal.len()].copy_from_slice(set.diagonal);
+        constants[..set.constants.len()].copy_from_slice(set.constants);
+        Rounds {
+            diagonal,
+            constants,
+            full: set.full_rounds as usize,
+            partial: set.partial_rounds as usize,
+        }
+    }
+
+    /// The permutation of a row with the row added. A node is its first l words.
+    #[inline(always)]
+    fn compressed<V: Version, const T: usize>(&self, row: &[u64; T]) -> [u64; T] {
+        let mut state = *row;
+        V::permute(&mut state, &self.diagonal, &self.constants, self.full, self.partial);
+        std::array::from_fn(|i| add(state[i], row[i]))
+    }
+
+    /// Row n of the store, compressed to the node of number `leaves` + n.
+    #[inline(always)]
+    fn rewrite<V: Version, const T: usize>(&self, sizes: &Sizes, store: &mut [u64], n: usize) {
+        let node = self.compressed::<V, T>(store[n * T..n * T + T].try_into().unwrap());
+        let at = (sizes.leaves + n) * sizes.node;
+        store[at..at + sizes.node].copy_from_slice(&node[..sizes.node]);
+    }
+
+    /// A leaf and the nodes above it; how many these are.
+    fn replace<V: Version, const T: usize>(&self, sizes: &Sizes, store: &mut [u64], place: usize, leaf: &[u64]) -> u64 {
+        store[place * sizes.node..(place + 1) * sizes.node].copy_from_slice(leaf);
+        let mut made = 0;
+        for (n, _) in sizes.path(place) {
+            self.rewrite::<V, T>(sizes, store, n);
+            made += 1;
+        }
+        made
+    }
+
+    /// Node i of a level, from the leaves alone.
+    fn node<V: Version, const T: usize>(&self, sizes: &Sizes, leaves: &[u64], level: usize, i: usize) -> [u64; 6] {
+        let mut node = [0; 6];
+        if level == 0 {
+            node[..sizes.node].copy_from_slice(&leaves[i * sizes.node..(i + 1) * sizes.node]);
+            return node;
+        }
+        let mut row = [0; T];
+        for (child, part) in row.chunks_exact_mut(sizes.node).enumerate() {
+            part.copy_from_slice(&self.node::<V, T>(sizes, leaves, level - 1, sizes.arity * i + child)[..sizes.node]);
+        }
+        node[..sizes.node].copy_from_slice(&self.compressed::<V, T>(&row)[..sizes.node]);
+        node
+    }
+}
+
+/// One compression, without any test.
+#[inline(never)]
+pub fn bare_compress<V: Version, const T: usize>(rounds: &Rounds, row: &[u64; T], node: &mut [u64]) {
+    let words = rounds.compressed::<V, T>(row);
+    node.copy_from_slice(&words[..node.len()]);
+}
+
+#[inline(never)]
+pub fn compress<V: Version, const T: usize>(set: &Set, state: &[u64], node: &mut [u64]) -> u8 {
+    let row = validate::<V>(set);
+    if row != DONE {
+        return row;
+    }
+    let Ok(words) = state.try_into() else { return BAD_LENGTH };
+    if node.len() as u64 != set.node_size {
+        return BAD_LENGTH;
+    }
+    if !all_words(state) {
+        return NOT_A_WORD;
+    }
+    bare_compress::<V, T>(&Rounds::of(set), words, node);
+    DONE
+}
+
+#[inline(never)]
+pub fn build<V: Version, const T: usize>(set: &Set, leaves: &[u64], store: &mut [u64]) -> u8 {
+    let row = validate::<V>(set);
+    if row != DONE {
+        return row;
+    }
+    let sizes = Sizes::of(set);
+    if leaves.len() != sizes.leaf_words() || store.len() != sizes.store_words() {
+        return BAD_LENGTH;
+    }
+    if !all_words(leaves) {
+        return NOT_A_WORD;
+    }
+    let rounds = Rounds::of(set);
+    store[..leaves.len()].copy_from_slice(leaves);
+    (0..sizes.inner).for_each(|n| rounds.rewrite::<V, T>(&sizes, store, n));
+    DONE
+}
+
+#[inline(never)]
+pub fn storeless_root<V: Version, const T: usize>(set: &Set, leaves: &[u64], node: &mut [u64]) -> u8 {
+    let row = validate::<V>(set);
+    if row != DONE {
+        return row;
+    }
+    let sizes = Sizes::of(set);
+    if leaves.len() != sizes.leaf_words() || node.len() != sizes.node {
+        return BAD_LENGTH;
+    }
+    if !all_words(leaves) {
+        return NOT_A_WORD;
+    }
+    let root = Rounds::of(set).node::<V, T>(&sizes, leaves, sizes.height, 0);
+    node.copy_from_slice(&root[..sizes.node]);
+    DONE
+}
+
+#[inline(never)]
+pub fn open<V: Version, const T: usize>(set: &Set, store: &[u64], place: u64, siblings: &mut [u64]) -> u8 {
+    let row = validate::<V>(set);
+    if row != DONE {
+        return row;
+    }
+    let sizes = Sizes::of(set);
+    if store.len() != sizes.store_words() || siblings.len() != sizes.opening_words() {
+        return BAD_LENGTH;
+    }
+    if place >= sizes.leaves as u64 {
+        return BAD_PLACE;
+    }
+    if !sizes.siblings_are_words::<T>(store, place as usize) {
+        return NOT_A_WORD;
+    }
+    for ((n, child), part) in sizes.path(place as usize).zip(siblings.chunks_exact_mut(sizes.beside())) {
+        let (before, behind) = sizes.siblings::<T>(store, n, child);
+        part[..before.len()].copy_from_slice(before);
+        part[before.len()..].copy_from_slice(behind);
+    }
+    DONE
+}
+
+#[inline(never)]
+pub fn verify<V: Version, const T: usize>(set: &Set, root: &[u64], place: u64, leaf: &[u64], siblings: &[u64]) -> u8 {
+    let row = validate::<V>(set);
+    if row != DONE {
+        return row;
+    }
+    let sizes = Sizes::of(set);
+    if root.len() != sizes.node || leaf.len() != sizes.node || siblings.len() != sizes.opening_words() {
+        return BAD_LENGTH;
+    }
+    if place >= sizes.leaves as u64 {
+        return BAD_PLACE;
+    }
+    if !all_words(root) || !all_words(leaf) || !all_words(siblings) {
+        return NOT_A_WORD;
+    }
+    let rounds = Rounds::of(set);
+    let (mut own, mut row) = ([0; T], [0; T]);
+    own[..sizes.node].copy_from_slice(leaf);
+    for ((_, child), part) in sizes.path(place as usize).zip(siblings.chunks_exact(sizes.beside())) {
+        let (at, behind) = (child * sizes.node, (child + 1) * sizes.node);
+        row[..at].copy_from_slice(&part[..at]);
+        row[at..behind].copy_from_slice(&own[..sizes.node]);
+        row[behind..].copy_from_slice(&part[at..]);
+        own = rounds.compressed::<V, T>(&row);
+    }
+    if &own[..sizes.node] == root {
+        DONE
+    } else {
+        REJECTED
+    }
+}
+
+#[inline(never)]
+pub fn replace<V: Version, const T: usize>(set: &Set, store: &mut [u64], place: u64, leaf: &[u64], made: &mut u64) -> u8 {
+    let row = validate::<V>(set);
+    if row != DONE {
+        return row;
+    }
+    let sizes = Sizes::of(set);
+    if store.len() != sizes.store_words() || leaf.len() != sizes.node {
+        return BAD_LENGTH;
+    }
+    if place >= sizes.leaves as u64 {
+        return BAD_PLACE;
+    }
+    if !all_words(leaf) || !sizes.siblings_are_words::<T>(store, place as usize) {
+        return NOT_A_WORD;
+    }
+    *made = Rounds::of(set).replace::<V, T>(&sizes, store, place as usize, leaf);
+    DONE
+}
+
+#[inline(never)]
+pub fn push<V: Version, const T: usize>(set: &Set, store: &mut [u64], records: &[u64], made: &mut u64) -> u8 {
+    let row = validate::<V>(set);
+    if row != DONE {
+        return row;
+    }
+    let sizes = Sizes::of(set);
+    if store.len() != sizes.store_words() || records.len() % RECORD != 0 || records.len() / RECORD > 1 << 32 {
+        return BAD_LENGTH;
+    }
+    if records.chunks_exact(RECORD).any(|record| record[0] >= sizes.leaves as u64) {
+        return BAD_PLACE;
+    }
+    if !records
+        .chunks_exact(RECORD)
+        .all(|record| all_words(&record[1..1 + sizes.node]))
+        || !all_words(store)
+    {
+        return NOT_A_WORD;
+    }
+    let rounds = Rounds::of(set);
+    *made = 0;
+    for record in records.chunks_exact(RECORD) {
+        *made += rounds.replace::<V, T>(&sizes, store, record[0] as usize, &record[1..1 + sizes.node]);
+    }
+    DONE
+}
