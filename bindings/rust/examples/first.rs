@@ -1,0 +1,18 @@
+use opening_tree::{field::P, ParameterSet, Refusal, SetNumbers, Tree};
+
+fn main() -> Result<(), Refusal> {
+    let set = ParameterSet::new(SetNumbers {
+        width: 4,
+        node_size: 2,
+        height: 1,
+        full_rounds: 2,
+        partial_rounds: 0,
+        diagonal: &[1, 2, 3, 4],
+        constants: &[0, 0, 0, 0, P - 505316, P - 410806, P - 127289, P - 94519],
+    })?;
+    let tree = Tree::build(&set, &[1, 0, 0, 0])?; // two leaves of two words
+    let (root, opening) = (tree.root(), tree.open(0)?);
+    let verdict = set.verify(&root, &[1, 0], &opening)?;
+    println!("root {:?}, {:?}", root.words(), verdict);
+    Ok(())
+}

@@ -1,0 +1,390 @@
+//! The nineteen functions of the library, over any numbers and slices. Nothing is presumed: what doesn't fit is refused by a row of
+//! the table, and after a refusal every buffer holds what it held.
+//!
+//! Below t is the width, l the node size, h the height and k = t / l. A store is its levels one after another, leaves first,
+//! l numbers a node. Every function that takes a set judges it first: rows 1 to 9.
+//!
+//! ```
+//! use opening_tree::entries::{self, SetNumbers};
+//! use opening_tree::Refusal;
+//!
+//! let set = SetNumbers {
+//!     width: 4,
+//!     node_size: 2,
+//!     height: 1,
+//!     full_rounds: 2,
+//!     partial_rounds: 0,
+//!     diagonal: &[1, 2, 3, 4],
+//!     constants: &[0; 8],
+//! };
+//! let mut state = [1, 0, 0, 0];
+//! entries::permute(&set, &mut state)?;
+//! entries::unpermute(&set, &mut state)?;
+//! assert_eq!(state, [1, 0, 0, 0]);
+//! assert_eq!(entries::permute(&set, &mut [1, 0, 0]), Err(Refusal::BadLength));
+//! # Ok::<(), Refusal>(())
+//! ```
+
+use crate::record::Record;
+use crate::refusal::Refusal;
+use crate::sys;
+
+/// The numbers of a parameter set, as they were handed in.
+#[derive(Clone, Copy, Debug, PartialEq, Eq, Hash)]
+pub struct SetNumbers<'a> {
+    /// t
+    pub width: u64,
+    /// l
+    pub node_size: u64,
+    /// h
+    pub height: u64,
+    /// R_F
+    pub full_rounds: u64,
+    /// R_P
+    pub partial_rounds: u64,
+    /// D: t words, the diagonal of the internal matrix less one.
+    pub diagonal: &'a [u64],
+    /// C: t × R_F + R_P words in order of use.
+    pub constants: &'a [u64],
+}
+
+/// Whether an opening ends in the root.
+#[derive(Clone, Copy, Debug, PartialEq, Eq, Hash)]
+#[must_use]
+pub enum Verdict {
+    /// The leaf, put back among its siblings at each level, ends in the root.
+    Accepted,
+    /// It ends in another node.
+    Rejected,
+}
+
+impl Verdict {
+    /// Whether this is `Accepted`.
+    pub const fn is_accepted(self) -> bool {
+        matches!(self, Verdict::Accepted)
+    }
+}
+
+/// What `opening_tree_verify` alone returns besides 0 and the rows.
+const REJECTED: u8 = 255;
+
+/// The row of a returned number that is not 0.
+fn refusal(number: u8) -> Refusal {
+    match Refusal::from_number(number) {
+        Some(refusal) => refusal,
+        None => panic!("the opening_tree library returned {number}, which is no answer of this function"),
+    }
+}
+
+/// What the returned number of every function but `opening_tree_verify` says.
+fn done(number: u8) -> Result<(), Refusal> {
+    match number {
+        0 => Ok(()),
+        _ => Err(refusal(number)),
+    }
+}
+
+/// What the returned number of `opening_tree_verify` says.
+fn verdict(number: u8) -> Result<Verdict, Refusal> {
+    match number {
+        0 => Ok(Verdict::Accepted),
+        REJECTED => Ok(Verdict::Rejected),
+        _ => Err(refusal(number)),
+    }
+}
+
+/// The number that a function writes beside its buffers: a word, a count or a level.
+fn written(call: impl FnOnce(&mut u64) -> u8) -> Result<u64, Refusal> {
+    let mut number = 0;
+    done(call(&mut number))?;
+    Ok(number)
+}
+
+/// Calls a function of `sys` with a set's numbers and the arguments after them.
+macro_rules! call {
+    ($function:ident, $set:expr $(, $argument:expr)*) => {
+        sys::$function(
+            $set.width,
+            $set.node_size,
+            $set.height,
+            $set.full_rounds,
+            $set.partial_rounds,
+            $set.diagonal.as_ptr(),
+            $set.diagonal.len(),
+            $set.constants.as_ptr(),
+            $set.constants.len()
+            $(, $argument)*
+        )
+    };
+}
+
+/// a + b. Row 12.
+pub fn sum(a: u64, b: u64) -> Result<u64, Refusal> {
+    // SAFETY: the result is one number that nothing else refers to.
+    written(|result| unsafe { sys::opening_tree_sum(a, b, result) })
+}
+
+/// a - b. Row 12.
+pub fn difference(a: u64, b: u64) -> Result<u64, Refusal> {
+    // SAFETY: the result is one number that nothing else refers to.
+    written(|result| unsafe { sys::opening_tree_difference(a, b, result) })
+}
+
+/// a × b. Row 12.
+pub fn product(a: u64, b: u64) -> Result<u64, Refusal> {
+    // SAFETY: the result is one number that nothing else refers to.
+    written(|result| unsafe { sys::opening_tree_product(a, b, result) })
+}
+
+/// The base to the power of any exponent; 1 for the exponent 0. Row 12 for the base.
+pub fn power(base: u64, exponent: u64) -> Result<u64, Refusal> {
+    // SAFETY: the result is one number that nothing else refers to.
+    written(|result| unsafe { sys::opening_tree_power(base, exponent, result) })
+}
+
+/// The word whose product with x is 1. Rows 12 and 13.
+pub fn inverse(x: u64) -> Result<u64, Refusal> {
+    // SAFETY: the result is one number that nothing else refers to.
+    written(|result| unsafe { sys::opening_tree_inverse(x, result) })
+}
+
+/// The word whose seventh power is y. Row 12.
+pub fn seventh_root(y: u64) -> Result<u64, Refusal> {
+    // SAFETY: the result is one number that nothing else refers to.
+    written(|result| unsafe { sys::opening_tree_seventh_root(y, result) })
+}
+
+/// Judges a set. Rows 1 to 9.
+pub fn validate(set: &SetNumbers) -> Result<(), Refusal> {
+    // SAFETY: each pointer comes with its slice's length.
+    done(unsafe { call!(opening_tree_validate, set) })
+}
+
+/// The permutation of t words, in place. Rows 1 to 10 and 12.
+pub fn permute(set: &SetNumbers, state: &mut [u64]) -> Result<(), Refusal> {
+    // SAFETY: each pointer comes with its slice's length, and the slice that is written is borrowed alone.
+    done(unsafe { call!(opening_tree_permute, set, state.as_mut_ptr(), state.len()) })
+}
+
+/// The words whose permutation is given, in place. Rows 1 to 10 and 12.
+pub fn unpermute(set: &SetNumbers, state: &mut [u64]) -> Result<(), Refusal> {
+    // SAFETY: each pointer comes with its slice's length, and the slice that is written is borrowed alone.
+    done(unsafe { call!(opening_tree_unpermute, set, state.as_mut_ptr(), state.len()) })
+}
+
+/// The compression of t words, written to a node of l. Rows 1 to 10 and 12.
+pub fn compress(set: &SetNumbers, state: &[u64], node: &mut [u64]) -> Result<(), Refusal> {
+    // SAFETY: each pointer comes with its slice's length, and the slice that is written is borrowed alone.
+    done(unsafe { call!(opening_tree_compress, set, state.as_ptr(), state.len(), node.as_mut_ptr(), node.len()) })
+}
+
+/// The whole store of k^h leaves. Rows 1 to 10 and 12.
+pub fn build(set: &SetNumbers, leaves: &[u64], store: &mut [u64]) -> Result<(), Refusal> {
+    // SAFETY: each pointer comes with its slice's length, and the slice that is written is borrowed alone.
+    done(unsafe { call!(opening_tree_build, set, leaves.as_ptr(), leaves.len(), store.as_mut_ptr(), store.len()) })
+}
+
+/// The root of a store, its last l numbers, copied to the node. Rows 1 to 10, and 12 for these l.
+pub fn root(set: &SetNumbers, store: &[u64], node: &mut [u64]) -> Result<(), Refusal> {
+    // SAFETY: each pointer comes with its slice's length, and the slice that is written is borrowed alone.
+    done(unsafe { call!(opening_tree_root, set, store.as_ptr(), store.len(), node.as_mut_ptr(), node.len()) })
+}
+
+/// The root of k^h leaves, written to the node, without a store. Rows 1 to 10 and 12.
+pub fn storeless_root(set: &SetNumbers, leaves: &[u64], node: &mut [u64]) -> Result<(), Refusal> {
+    // SAFETY: each pointer comes with its slice's length, and the slice that is written is borrowed alone.
+    done(unsafe { call!(opening_tree_storeless_root, set, leaves.as_ptr(), leaves.len(), node.as_mut_ptr(), node.len()) })
+}
+
+/// The opening of a place, h × (k - 1) × l numbers: its siblings at each level from the leaves up. Rows 1 to 11, and 12 for the
+/// numbers copied.
+pub fn open(set: &SetNumbers, store: &[u64], place: u64, siblings: &mut [u64]) -> Result<(), Refusal> {
+    // SAFETY: each pointer comes with its slice's length, and the slice that is written is borrowed alone.
+    done(unsafe { call!(opening_tree_open, set, store.as_ptr(), store.len(), place, siblings.as_mut_ptr(), siblings.len()) })
+}
+
+/// Whether the leaf stood at the place under the root. Rows 1 to 12.
+pub fn verify(set: &SetNumbers, root: &[u64], place: u64, leaf: &[u64], siblings: &[u64]) -> Result<Verdict, Refusal> {
+    // SAFETY: each pointer comes with its slice's length, and nothing is written.
+    verdict(unsafe {
+        call!(
+            opening_tree_verify,
+            set,
+            root.as_ptr(),
+            root.len(),
+            place,
+            leaf.as_ptr(),
+            leaf.len(),
+            siblings.as_ptr(),
+            siblings.len()
+        )
+    })
+}
+
+/// The siblings of one level, (k - 1) × l numbers, copied to the part. Rows 1 to 10, 11 for a level not below h, and 12 for the
+/// numbers copied.
+pub fn read_level(set: &SetNumbers, siblings: &[u64], level: u64, part: &mut [u64]) -> Result<(), Refusal> {
+    // SAFETY: each pointer comes with its slice's length, and the slice that is written is borrowed alone.
+    done(unsafe { call!(opening_tree_read_level, set, siblings.as_ptr(), siblings.len(), level, part.as_mut_ptr(), part.len()) })
+}
+
+/// Puts a leaf at its place in the store, and writes the h nodes above it. Answers the compressions made. Rows 1 to 11, and 12 for
+/// the leaf and the stored siblings that are read.
+pub fn replace(set: &SetNumbers, store: &mut [u64], place: u64, leaf: &[u64]) -> Result<u64, Refusal> {
+    // SAFETY: each pointer comes with its slice's length; the slice and the number that are written are borrowed alone.
+    written(|made| unsafe {
+        call!(opening_tree_replace, set, store.as_mut_ptr(), store.len(), place, leaf.as_ptr(), leaf.len(), made)
+    })
+}
+
+/// Replacements in order, all or none. The records are a flat list, seven numbers each: a place, and six words of which the first l
+/// are the leaf. Answers the compressions made. Rows 1 to 9, 10 also for a list that is not a multiple of seven, 11, and 12 for the
+/// words used and the whole store.
+///
+/// [`record_numbers`] makes the flat list of [`Record`]s.
+pub fn push(set: &SetNumbers, store: &mut [u64], records: &[u64]) -> Result<u64, Refusal> {
+    // SAFETY: each pointer comes with its slice's length; the slice and the number that are written are borrowed alone.
+    written(|made| unsafe {
+        call!(opening_tree_push, set, store.as_mut_ptr(), store.len(), records.as_ptr(), records.len(), made)
+    })
+}
+
+/// Of two leaves with their openings, both accepted at the place under the root: answers the lowest level at which their rows differ
+/// and compress alike, and writes the first leaf's row to `first_row` and the second's to `second_row`, t numbers each. Rows 1 to 12,
+/// 14 and 15.
+#[allow(clippy::too_many_arguments)] // The C function's own.
+pub fn extract(
+    set: &SetNumbers,
+    root: &[u64],
+    place: u64,
+    first: &[u64],
+    first_siblings: &[u64],
+    second: &[u64],
+    second_siblings: &[u64],
+    first_row: &mut [u64],
+    second_row: &mut [u64],
+) -> Result<u64, Refusal> {
+    // SAFETY: each pointer comes with its slice's length; the slices and the number that are written are borrowed alone.
+    written(|level| unsafe {
+        call!(
+            opening_tree_extract,
+            set,
+            root.as_ptr(),
+            root.len(),
+            place,
+            first.as_ptr(),
+            first.len(),
+            first_siblings.as_ptr(),
+            first_siblings.len(),
+            second.as_ptr(),
+            second.len(),
+            second_siblings.as_ptr(),
+            second_siblings.len(),
+            first_row.as_mut_ptr(),
+            first_row.len(),
+            second_row.as_mut_ptr(),
+            second_row.len(),
+            level
+        )
+    })
+}
+
+/// The flat list of records, seven numbers each.
+///
+/// ```
+/// use opening_tree::entries::record_numbers;
+/// use opening_tree::Record;
+///
+/// let record = Record { place: 9, words: [1, 2, 3, 4, 5, 6] };
+/// assert_eq!(record_numbers(&[record]), [9, 1, 2, 3, 4, 5, 6]);
+/// ```
+pub fn record_numbers(records: &[Record]) -> &[u64] {
+    const {
+        assert!(size_of::<Record>() == Record::NUMBERS * size_of::<u64>());
+        assert!(align_of::<Record>() == align_of::<u64>());
+    }
+    // SAFETY: a record is laid out in C's order and has the size and alignment of seven numbers, so that it is these and nothing
+    // else. The memory is that of the records, whose bytes are at most isize::MAX, and is borrowed as long as they are.
+    unsafe { std::slice::from_raw_parts(records.as_ptr().cast(), records.len() * Record::NUMBERS) }
+}
+
+#[cfg(test)]
+mod tests {
+    use super::*;
+
+    #[test]
+    fn returned_numbers_are_read() {
+        assert_eq!(done(0), Ok(()));
+        assert_eq!(verdict(0), Ok(Verdict::Accepted));
+        assert_eq!(verdict(255), Ok(Verdict::Rejected));
+        for refusal in Refusal::ALL {
+            assert_eq!(done(refusal.number()), Err(refusal));
+            assert_eq!(verdict(refusal.number()), Err(refusal));
+        }
+    }
+
+    #[test]
+    fn numbers_without_a_meaning_are_taken_for_nothing() {
+        for number in 16..=u8::MAX {
+            assert!(std::panic::catch_unwind(|| done(number)).is_err(), "{number}");
+            if number != REJECTED {
+                assert!(std::panic::catch_unwind(|| verdict(number)).is_err(), "{number}");
+            }
+        }
+    }
+
+    /// The numbers beside the slices are left alone too by a call that is refused.
+    #[test]
+    fn a_refusal_leaves_the_numbers_that_are_written() {
+        const KEPT: u64 = 0x1234_5678;
+        const P: u64 = crate::field::P;
+        let set = SetNumbers {
+            width: 4,
+            node_size: 2,
+            height: 1,
+            full_rounds: 2,
+            partial_rounds: 0,
+            diagonal: &[1, 2, 3, 4],
+            constants: &[0; 8],
+        };
+        let mut kept = KEPT;
+        let number = &mut kept as *mut u64;
+        let mut store = [0; 6];
+        let (mut first_row, mut second_row) = ([0; 4], [0; 4]);
+        // SAFETY: every count is that of the array before it, and what is written overlaps nothing.
+        let rows = unsafe {
+            [
+                sys::opening_tree_sum(P, 0, number),
+                sys::opening_tree_difference(0, P, number),
+                sys::opening_tree_product(P, 1, number),
+                sys::opening_tree_power(P, 1, number),
+                sys::opening_tree_inverse(0, number),
+                sys::opening_tree_seventh_root(P, number),
+                call!(opening_tree_replace, set, store.as_mut_ptr(), 6, 2, [1, 1].as_ptr(), 2, number),
+                call!(opening_tree_push, set, store.as_mut_ptr(), 6, [2, 0, 0, 0, 0, 0, 0].as_ptr(), 7, number),
+                call!(
+                    opening_tree_extract,
+                    set,
+                    [1, 1].as_ptr(),
+                    2,
+                    0,
+                    [0, 0].as_ptr(),
+                    2,
+                    [0, 0].as_ptr(),
+                    2,
+                    [1, 0].as_ptr(),
+                    2,
+                    [0, 0].as_ptr(),
+                    2,
+                    first_row.as_mut_ptr(),
+                    4,
+                    second_row.as_mut_ptr(),
+                    4,
+                    number
+                ),
+            ]
+        };
+        assert_eq!(rows, [12, 12, 12, 12, 13, 12, 11, 11, 14]);
+        assert_eq!(kept, KEPT);
+    }
+}

@@ -1,0 +1,128 @@
+//! The rows of the table by which a call is refused.
+
+use std::error::Error;
+use std::fmt;
+
+/// Why a call was refused: one row of the table. Of the rows that apply, the lowest is given.
+///
+/// ```
+/// use opening_tree::{field, Refusal};
+///
+/// let refusal = field::inverse(0).unwrap_err();
+/// assert_eq!(refusal, Refusal::NoInverse);
+/// assert_eq!(refusal.number(), 13);
+/// assert_eq!(refusal.to_string(), "0 has no inverse");
+/// ```
+#[derive(Clone, Copy, Debug, PartialEq, Eq, PartialOrd, Ord, Hash)]
+#[repr(u8)]
+pub enum Refusal {
+    /// The width is not 4, 8 or 12.
+    BadWidth = 1,
+    /// The node size is 0, does not divide the width, or leaves an arity below 2.
+    BadNodeSize = 2,
+    /// The full rounds are odd, 0 or above 12.
+    BadFullRounds = 3,
+    /// The partial rounds are above 64.
+    BadPartialRounds = 4,
+    /// The height is above 32, or there are more than 2^32 leaves.
+    BadHeight = 5,
+    /// The diagonal or the constants are of another length.
+    BadListLength = 6,
+    /// A number of the diagonal or the constants is not a word.
+    BadListWord = 7,
+    /// A word of the diagonal is 0.
+    ZeroInDiagonal = 8,
+    /// 1 plus the inverses of the diagonal is 0.
+    SingularDiagonal = 9,
+    /// Another buffer is not of its exact length, or a push has over 2^32 records.
+    BadLength = 10,
+    /// A place is not below the number of leaves, or a level not below the height.
+    BadPlace = 11,
+    /// A number handed in is not a word.
+    NotAWord = 12,
+    /// The inverse of 0.
+    NoInverse = 13,
+    /// Extraction: an opening is not accepted.
+    NotAccepted = 14,
+    /// Extraction: the leaves are equal.
+    EqualLeaves = 15,
+}
+
+impl Refusal {
+    /// Every row, in the table's order.
+    pub const ALL: [Refusal; 15] = [
+        Refusal::BadWidth,
+        Refusal::BadNodeSize,
+        Refusal::BadFullRounds,
+        Refusal::BadPartialRounds,
+        Refusal::BadHeight,
+        Refusal::BadListLength,
+        Refusal::BadListWord,
+        Refusal::ZeroInDiagonal,
+        Refusal::SingularDiagonal,
+        Refusal::BadLength,
+        Refusal::BadPlace,
+        Refusal::NotAWord,
+        Refusal::NoInverse,
+        Refusal::NotAccepted,
+        Refusal::EqualLeaves,
+    ];
+
+    /// The row's number, 1 to 15.
+    pub const fn number(self) -> u8 {
+        self as u8
+    }
+
+    /// The row of a number, if it has one.
+    pub fn from_number(number: u8) -> Option<Refusal> {
+        Refusal::ALL.into_iter().find(|refusal| refusal.number() == number)
+    }
+}
+
+impl fmt::Display for Refusal {
+    fn fmt(&self, f: &mut fmt::Formatter<'_>) -> fmt::Result {
+        f.write_str(match self {
+            Refusal::BadWidth => "the width is not 4, 8 or 12",
+            Refusal::BadNodeSize => "the node size is 0, doesn't divide the width, or the arity is below 2",
+            Refusal::BadFullRounds => "the full rounds are odd, 0 or above 12",
+            Refusal::BadPartialRounds => "the partial rounds are above 64",
+            Refusal::BadHeight => "the height is above 32, or the leaves are more than 2^32",
+            Refusal::BadListLength => "the diagonal or the constants are of wrong length",
+            Refusal::BadListWord => "a number in the diagonal or the constants is not below p",
+            Refusal::ZeroInDiagonal => "a word of the diagonal is 0",
+            Refusal::SingularDiagonal => "1 plus the inverses of all the diagonal is 0",
+            Refusal::BadLength => "a buffer is not of its exact length, or a push has over 2^32 records",
+            Refusal::BadPlace => "a place is not below the number of leaves, or a level not below the height",
+            Refusal::NotAWord => "a number handed in is not a word",
+            Refusal::NoInverse => "0 has no inverse",
+            Refusal::NotAccepted => "an opening handed to the extractor is not accepted",
+            Refusal::EqualLeaves => "the leaves handed to the extractor are equal",
+        })
+    }
+}
+
+impl Error for Refusal {}
+
+#[cfg(test)]
+mod tests {
+    use super::Refusal;
+
+    #[test]
+    fn every_row_has_its_number() {
+        for (refusal, number) in Refusal::ALL.into_iter().zip(1..) {
+            assert_eq!(refusal.number(), number);
+            assert_eq!(Refusal::from_number(number), Some(refusal));
+        }
+        for number in [0, 16, 99, 255] {
+            assert_eq!(Refusal::from_number(number), None);
+        }
+    }
+
+    #[test]
+    fn every_row_has_its_own_words() {
+        let mut words: Vec<String> = Refusal::ALL.iter().map(Refusal::to_string).collect();
+        words.sort();
+        words.dedup();
+        assert_eq!(words.len(), 15);
+    }
+}

@@ -1,0 +1,207 @@
+//! Parameter sets that are validated, and what needs no tree.
+
+use crate::entries::{self, SetNumbers, Verdict};
+use crate::opening::{Collision, Offer, Opening, Root};
+use crate::refusal::Refusal;
+
+/// A parameter set that is validated.
+///
+/// ```
+/// use opening_tree::{ParameterSet, Refusal, SetNumbers};
+///
+/// let numbers = SetNumbers {
+///     width: 8,
+///     node_size: 4,
+///     height: 32,
+///     full_rounds: 2,
+///     partial_rounds: 1,
+///     diagonal: &[1, 2, 3, 4, 5, 6, 7, 8],
+///     constants: &[0; 17],
+/// };
+/// let set = ParameterSet::new(numbers)?;
+/// assert_eq!((set.arity(), set.places()), (2, 1 << 32));
+/// assert_eq!((set.opening_words(), set.part_words()), (128, 4));
+///
+/// let taller = SetNumbers { height: 33, ..numbers };
+/// assert_eq!(ParameterSet::new(taller), Err(Refusal::BadHeight));
+/// # Ok::<(), Refusal>(())
+/// ```
+#[derive(Clone, Debug, PartialEq, Eq, Hash)]
+pub struct ParameterSet {
+    width: u64,
+    node_size: u64,
+    height: u64,
+    full_rounds: u64,
+    partial_rounds: u64,
+    diagonal: Vec<u64>,
+    constants: Vec<u64>,
+}
+
+/// Why the sizes below don't overflow.
+const BOUNDED: &str = "a validated set has at most 2^32 leaves of at most 6 words";
+
+impl ParameterSet {
+    /// The set of these numbers, if no row applies. Rows 1 to 9.
+    pub fn new(numbers: SetNumbers) -> Result<ParameterSet, Refusal> {
+        entries::validate(&numbers)?;
+        Ok(ParameterSet {
+            width: numbers.width,
+            node_size: numbers.node_size,
+            height: numbers.height,
+            full_rounds: numbers.full_rounds,
+            partial_rounds: numbers.partial_rounds,
+            diagonal: numbers.diagonal.to_vec(),
+            constants: numbers.constants.to_vec(),
+        })
+    }
+
+    /// The numbers that the set was made of.
+    pub fn numbers(&self) -> SetNumbers<'_> {
+        SetNumbers {
+            width: self.width,
+            node_size: self.node_size,
+            height: self.height,
+            full_rounds: self.full_rounds,
+            partial_rounds: self.partial_rounds,
+            diagonal: &self.diagonal,
+            constants: &self.constants,
+        }
+    }
+
+    /// t, the words of a state and of a row of nodes.
+    pub fn width(&self) -> usize {
+        size(self.width)
+    }
+
+    /// l, the words of a node: of a leaf and of a root.
+    pub fn node_size(&self) -> usize {
+        size(self.node_size)
+    }
+
+    /// h, the levels above the leaves.
+    pub fn height(&self) -> u64 {
+        self.height
+    }
+
+    /// k, the nodes of a row.
+    pub fn arity(&self) -> u64 {
+        self.width / self.node_size
+    }
+
+    /// k^h, the number of leaves.
+    pub fn places(&self) -> u64 {
+        self.level_places(0)
+    }
+
+    /// The words of all leaves.
+    pub fn leaf_words(&self) -> usize {
+        size(self.places().checked_mul(self.node_size).expect(BOUNDED))
+    }
+
+    /// The words of a store: every node of every level.
+    pub fn store_words(&self) -> usize {
+        let nodes = (0..=self.height).try_fold(0u64, |nodes, level| nodes.checked_add(self.level_places(level)));
+        size(nodes.and_then(|nodes| nodes.checked_mul(self.node_size)).expect(BOUNDED))
+    }
+
+    /// The words of an opening: the siblings of every level.
+    pub fn opening_words(&self) -> usize {
+        size(self.height) * self.part_words()
+    }
+
+    /// The words of an opening at one level.
+    pub fn part_words(&self) -> usize {
+        self.width() - self.node_size()
+    }
+
+    /// The nodes of a level, at most the height.
+    fn level_places(&self, level: u64) -> u64 {
+        let exponent = u32::try_from(self.height - level).expect(BOUNDED);
+        self.arity().checked_pow(exponent).expect(BOUNDED)
+    }
+
+    /// The permutation of t words, in place. Rows 10 and 12.
+    ///
+    /// ```
+    /// # use opening_tree::{ParameterSet, SetNumbers};
+    /// # let (diagonal, constants) = (&[1, 2, 3, 4], &[0; 8]);
+    /// # let set = ParameterSet::new(SetNumbers {
+    /// #     width: 4, node_size: 2, height: 1, full_rounds: 2, partial_rounds: 0, diagonal, constants,
+    /// # })?;
+    /// let mut state = [1, 2, 3, 4];
+    /// set.permute(&mut state)?;
+    /// assert_ne!(state, [1, 2, 3, 4]);
+    /// set.unpermute(&mut state)?;
+    /// assert_eq!(state, [1, 2, 3, 4]);
+    /// # Ok::<(), opening_tree::Refusal>(())
+    /// ```
+    pub fn permute(&self, state: &mut [u64]) -> Result<(), Refusal> {
+        entries::permute(&self.numbers(), state)
+    }
+
+    /// The words whose permutation is given, in place. Rows 10 and 12.
+    pub fn unpermute(&self, state: &mut [u64]) -> Result<(), Refusal> {
+        entries::unpermute(&self.numbers(), state)
+    }
+
+    /// The compression of a row of t words: a node of l. Rows 10 and 12.
+    pub fn compress(&self, row: &[u64]) -> Result<Vec<u64>, Refusal> {
+        let mut node = vec![0; self.node_size()];
+        entries::compress(&self.numbers(), row, &mut node)?;
+        Ok(node)
+    }
+
+    /// The root of the leaves, without a store. Rows 10 and 12.
+    pub fn storeless_root(&self, leaves: &[u64]) -> Result<Root, Refusal> {
+        let mut node = vec![0; self.node_size()];
+        entries::storeless_root(&self.numbers(), leaves, &mut node)?;
+        Ok(Root::from(node))
+    }
+
+    /// Whether the leaf stood at the opening's place under the root. Rows 10 to 12.
+    pub fn verify(&self, root: &Root, leaf: &[u64], opening: &Opening) -> Result<Verdict, Refusal> {
+        entries::verify(&self.numbers(), root.words(), opening.place, leaf, &opening.siblings)
+    }
+
+    /// The siblings of one level, k - 1 nodes. No number of another level is looked at. Rows 10, 11 for a level not below h, and 12.
+    ///
+    /// ```
+    /// # use opening_tree::{Opening, ParameterSet, SetNumbers};
+    /// # let (diagonal, constants) = (&[1, 2, 3, 4], &[0; 8]);
+    /// # let set = ParameterSet::new(SetNumbers {
+    /// #     width: 4, node_size: 2, height: 3, full_rounds: 2, partial_rounds: 0, diagonal, constants,
+    /// # })?;
+    /// let opening = Opening { place: 5, siblings: vec![10, 11, 20, 21, 30, 31] };
+    /// assert_eq!(set.read_level(&opening, 1)?, [20, 21]);
+    /// # Ok::<(), opening_tree::Refusal>(())
+    /// ```
+    pub fn read_level(&self, opening: &Opening, level: u64) -> Result<Vec<u64>, Refusal> {
+        let mut part = vec![0; self.part_words()];
+        entries::read_level(&self.numbers(), &opening.siblings, level, &mut part)?;
+        Ok(part)
+    }
+
+    /// Of two leaves that are both accepted at a place under one root, the lowest level at which their rows differ and compress
+    /// alike, and these rows. Rows 10 to 12, 14 and 15.
+    pub fn extract(&self, root: &Root, place: u64, first: Offer, second: Offer) -> Result<Collision, Refusal> {
+        let mut first_row = vec![0; self.width()];
+        let mut second_row = vec![0; self.width()];
+        let level = entries::extract(
+            &self.numbers(),
+            root.words(),
+            place,
+            first.leaf,
+            first.siblings,
+            second.leaf,
+            second.siblings,
+            &mut first_row,
+            &mut second_row,
+        )?;
+        Ok(Collision { level, first_row, second_row })
+    }
+}
+
+/// A size as a slice's length.
+fn size(number: u64) -> usize {
+    usize::try_from(number).expect("lengths are of 64 bits on the one target")
+}

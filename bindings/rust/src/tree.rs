@@ -1,0 +1,94 @@
+//! Trees that own their store.
+
+use crate::entries;
+use crate::opening::{Opening, Root};
+use crate::record::Record;
+use crate::refusal::Refusal;
+use crate::set::ParameterSet;
+
+/// A tree: a set and the store of its leaves.
+///
+/// ```
+/// use opening_tree::{ParameterSet, Record, SetNumbers, Tree};
+///
+/// let set = ParameterSet::new(SetNumbers {
+///     width: 4,
+///     node_size: 2,
+///     height: 2,
+///     full_rounds: 2,
+///     partial_rounds: 0,
+///     diagonal: &[1, 2, 3, 4],
+///     constants: &[0; 8],
+/// })?;
+/// let mut tree = Tree::build(&set, &[0, 0, 1, 1, 2, 2, 3, 3])?;
+/// assert_eq!(tree.replace(3, &[7, 7])?, 2); // compressions
+/// let record = Record::new(0, &[9, 9]).expect("at most six words");
+/// assert_eq!(tree.push(&[record, record])?, 4);
+/// assert_eq!(tree.leaves(), [9, 9, 1, 1, 2, 2, 7, 7]);
+/// assert_eq!(tree.root(), set.storeless_root(tree.leaves())?);
+/// # Ok::<(), opening_tree::Refusal>(())
+/// ```
+#[derive(Clone, Debug, PartialEq, Eq, Hash)]
+pub struct Tree {
+    set: ParameterSet,
+    /// As building and the changes left it: of its exact length, every number a word.
+    store: Vec<u64>,
+}
+
+impl Tree {
+    /// The tree of k^h leaves, l words each. Rows 10 and 12.
+    pub fn build(set: &ParameterSet, leaves: &[u64]) -> Result<Tree, Refusal> {
+        // Tested before memory is taken for the store, which is then at most twice the leaves.
+        if leaves.len() != set.leaf_words() {
+            return Err(Refusal::BadLength);
+        }
+        let mut store = vec![0; set.store_words()];
+        entries::build(&set.numbers(), leaves, &mut store)?;
+        Ok(Tree { set: set.clone(), store })
+    }
+
+    /// The set that the tree was built under.
+    pub fn set(&self) -> &ParameterSet {
+        &self.set
+    }
+
+    /// The levels one after another, leaves first.
+    pub fn store(&self) -> &[u64] {
+        &self.store
+    }
+
+    /// Level 0.
+    pub fn leaves(&self) -> &[u64] {
+        &self.store[..self.set.leaf_words()]
+    }
+
+    /// The leaf at a place. Row 11.
+    pub fn leaf(&self, place: u64) -> Result<&[u64], Refusal> {
+        let place = usize::try_from(place).map_err(|_| Refusal::BadPlace)?;
+        self.leaves().chunks_exact(self.set.node_size()).nth(place).ok_or(Refusal::BadPlace)
+    }
+
+    /// The root.
+    pub fn root(&self) -> Root {
+        let mut node = vec![0; self.set.node_size()];
+        entries::root(&self.set.numbers(), &self.store, &mut node).expect("no row applies to a tree's own store");
+        Root::from(node)
+    }
+
+    /// The opening of a place. Row 11.
+    pub fn open(&self, place: u64) -> Result<Opening, Refusal> {
+        let mut siblings = vec![0; self.set.opening_words()];
+        entries::open(&self.set.numbers(), &self.store, place, &mut siblings)?;
+        Ok(Opening { place, siblings })
+    }
+
+    /// Puts a leaf at a place, and answers the compressions made, h. Rows 10 to 12.
+    pub fn replace(&mut self, place: u64, leaf: &[u64]) -> Result<u64, Refusal> {
+        entries::replace(&self.set.numbers(), &mut self.store, place, leaf)
+    }
+
+    /// Makes the replacements in order, all or none, and answers the compressions made, h for each. Rows 10 to 12.
+    pub fn push(&mut self, records: &[Record]) -> Result<u64, Refusal> {
+        entries::push(&self.set.numbers(), &mut self.store, entries::record_numbers(records))
+    }
+}

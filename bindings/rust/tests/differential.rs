@@ -1,0 +1,180 @@
+//! The library against the model, on calls that are done and calls that are damaged. Every answer and every buffer is compared.
+
+mod model;
+mod support;
+
+use model::set::Set;
+use support::calls::{Answer, Call, Entry};
+use support::cases::{call, set_for, set_of, SHAPES};
+use support::collisions::{collision, Collision, Kind};
+use support::damage::{damage, EDGES};
+use support::generator::Generator;
+use support::tally::Tally;
+
+const SEED: u64 = 20260101;
+const DRAWN_CALLS: usize = 10_000;
+const LEAST_CALLS: u64 = 100_000;
+
+#[test]
+fn library_answers_as_the_model() {
+    let generator = &mut Generator(SEED);
+    let tally = &mut Tally::default();
+    drawn_calls(generator, tally);
+    edges_of_sets(generator, tally);
+    edges_of_calls(generator, tally);
+    collisions(generator, tally);
+    tally.print();
+    assert!(tally.total() >= LEAST_CALLS);
+    tally.assert_all_reached();
+    let levels = tally.levels();
+    assert!(levels.len() >= 4 && levels.iter().all(|&count| count >= 20), "{levels:?}");
+    assert!(levels.iter().sum::<u64>() >= 500, "{levels:?}");
+}
+
+/// Every function with drawn arguments: as they are, with one change, or with two.
+fn drawn_calls(generator: &mut Generator, tally: &mut Tally) {
+    for entry in Entry::ALL {
+        for _ in 0..DRAWN_CALLS {
+            let set = set_for(generator, entry);
+            let mut call = call(generator, entry, set);
+            for _ in 0..generator.pick(&[0, 0, 1, 1, 1, 2]) {
+                damage(generator, &mut call);
+            }
+            tally.compare(call);
+        }
+    }
+}
+
+/// Every place of both lists of a set, with each number at the edge of being a word.
+fn edges_of_sets(generator: &mut Generator, tally: &mut Tally) {
+    for shape in [(4, 2), (8, 4), (12, 3)] {
+        for entry in Entry::ALL.into_iter().filter(|entry| !entry.is_of_field()) {
+            let set = set_of(generator, shape, 1, 2, 3);
+            let call = done_call(generator, entry, set);
+            for edge in EDGES.into_iter().chain([0]) {
+                for i in 0..call.set.diagonal.len() {
+                    let mut call = call.clone();
+                    call.set.diagonal[i] = edge;
+                    tally.compare(call);
+                }
+                for i in 0..call.set.constants.len() {
+                    let mut call = call.clone();
+                    call.set.constants[i] = edge;
+                    tally.compare(call);
+                }
+            }
+        }
+    }
+}
+
+/// Every number of every buffer at the edge of being a word, every length that is one off, and every place that is near the last.
+fn edges_of_calls(generator: &mut Generator, tally: &mut Tally) {
+    for shape in SHAPES {
+        for height in 0..=2 {
+            for entry in Entry::ALL.into_iter().filter(|&entry| entry != Entry::Validate) {
+                let set = set_of(generator, shape, height, 2, 1);
+                edges_of_call(&done_call(generator, entry, set), tally);
+            }
+        }
+    }
+}
+
+/// A call that is done, but for an extraction without a collision, and a reader where there are no levels.
+fn done_call(generator: &mut Generator, entry: Entry, set: Set) -> Call {
+    loop {
+        let call = call(generator, entry, set.clone());
+        let is_refused = matches!(call.clone().ask_model(), Answer::Refused(_));
+        let must_be = entry == Entry::Extract || (entry == Entry::ReadLevel && set.height == 0);
+        let is_empty_push = entry == Entry::Push && call.buffers[1].is_empty();
+        if is_refused == must_be && !is_empty_push {
+            return call;
+        }
+    }
+}
+
+fn edges_of_call(call: &Call, tally: &mut Tally) {
+    numbers_at_edges(call, tally);
+    lengths_at_edges(call, tally);
+    places_at_edges(call, tally);
+}
+
+fn numbers_at_edges(call: &Call, tally: &mut Tally) {
+    for (i, buffer) in call.buffers.iter().enumerate() {
+        for j in 0..buffer.len() {
+            for edge in EDGES {
+                let mut call = call.clone();
+                call.buffers[i][j] = edge;
+                tally.compare(call);
+            }
+        }
+    }
+}
+
+fn lengths_at_edges(call: &Call, tally: &mut Tally) {
+    for (i, buffer) in call.buffers.iter().enumerate() {
+        for length in [0, buffer.len().saturating_sub(1), buffer.len() + 1, buffer.len() + 7] {
+            let mut call = call.clone();
+            call.buffers[i].resize(length, 0);
+            tally.compare(call);
+        }
+    }
+}
+
+fn places_at_edges(call: &Call, tally: &mut Tally) {
+    let bound = if call.entry == Entry::ReadLevel { call.set.height } else { call.set.places() as u64 };
+    for i in 0..call.numbers.len() {
+        for number in [0, bound.wrapping_sub(1), bound, bound + 1].into_iter().chain(EDGES) {
+            let mut call = call.clone();
+            call.numbers[i] = number;
+            tally.compare(call);
+        }
+    }
+}
+
+/// Two leaves that are both accepted.
+fn collisions(generator: &mut Generator, tally: &mut Tally) {
+    for shape in SHAPES {
+        let arity = (shape.0 / shape.1) as usize;
+        let levels = (0..arity.min(4)).map(Kind::At);
+        for kind in levels.chain([Kind::Twice]) {
+            for partial in [0, 5] {
+                if partial > 0 && matches!(kind, Kind::At(2..)) {
+                    continue;
+                }
+                let made = collision(generator, shape, kind, partial);
+                extractions(generator, tally, &made, kind);
+            }
+        }
+    }
+}
+
+fn extractions(generator: &mut Generator, tally: &mut Tally, made: &Collision, kind: Kind) {
+    edges_of_call(&made.extraction(generator), tally);
+    for _ in 0..10 {
+        let call = made.extraction(generator);
+        let level = match kind {
+            Kind::At(level) => level as u64,
+            Kind::Twice => 0,
+        };
+        // At level 0 the leaf may be a node that is equal in both rows.
+        let equal = call.buffers[1] == call.buffers[3];
+        assert!(!equal || matches!(kind, Kind::At(0)), "{kind:?}");
+        let expected = if equal { Answer::Refused(15) } else { Answer::Number(level) };
+        assert_eq!(tally.compare(call.clone()), expected, "{kind:?}");
+
+        for leaf in [1, 3] {
+            let buffers = vec![call.buffers[0].clone(), call.buffers[leaf].clone(), call.buffers[leaf + 1].clone()];
+            let verification = Call { entry: Entry::Verify, buffers, ..call.clone() };
+            assert_eq!(tally.compare(verification), Answer::Accepted);
+        }
+
+        let mut swapped = call.clone();
+        swapped.buffers.swap(1, 3);
+        swapped.buffers.swap(2, 4);
+        tally.compare(swapped);
+
+        let mut damaged = call;
+        damage(generator, &mut damaged);
+        tally.compare(damaged);
+    }
+}

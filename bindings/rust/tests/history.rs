@@ -1,0 +1,126 @@
+//! Lists of changes to a tree, against a book of its leaves alone.
+
+mod model;
+mod support;
+
+use model::field::is_word;
+use model::set::Set;
+use opening_tree::{ParameterSet, Record, Refusal, SetNumbers, Tree, Verdict};
+use support::cases::{set_of, SHAPES};
+use support::generator::Generator;
+
+const SEED: u64 = 7;
+const LISTS: usize = 30;
+const CHANGES: usize = 12;
+
+/// What a change must answer, and whether the leaf goes in the book, from the change and the set alone.
+struct Book {
+    leaves: Vec<Vec<u64>>,
+    l: usize,
+    height: u64,
+}
+
+impl Book {
+    fn replace(&mut self, place: u64, leaf: &[u64]) -> Result<u64, Refusal> {
+        if leaf.len() != self.l {
+            return Err(Refusal::BadLength);
+        }
+        self.push(&[(place, leaf)])
+    }
+
+    fn push(&mut self, records: &[(u64, &[u64])]) -> Result<u64, Refusal> {
+        if records.iter().any(|&(place, _)| place >= self.leaves.len() as u64) {
+            return Err(Refusal::BadPlace);
+        }
+        if records.iter().any(|(_, leaf)| !leaf.iter().all(|&n| is_word(n))) {
+            return Err(Refusal::NotAWord);
+        }
+        for &(place, leaf) in records {
+            self.leaves[place as usize] = leaf.to_vec();
+        }
+        Ok(self.height * records.len() as u64)
+    }
+}
+
+/// A leaf of l numbers, at times with one that is not a word.
+fn leaf(generator: &mut Generator, l: usize) -> Vec<u64> {
+    let mut leaf = generator.words(l);
+    if generator.once_in(12) {
+        leaf[generator.below(l)] = generator.no_word();
+    }
+    leaf
+}
+
+/// A place, at times none of the tree.
+fn place(generator: &mut Generator, places: u64) -> u64 {
+    if generator.once_in(12) {
+        generator.pick(&[places, places + 1, u64::MAX])
+    } else {
+        generator.number() % places
+    }
+}
+
+fn change(generator: &mut Generator, tree: &mut Tree, book: &mut Book) -> Result<u64, Refusal> {
+    let places = tree.set().places();
+    if generator.once_in(2) {
+        let place = place(generator, places);
+        let mut leaf = leaf(generator, book.l);
+        if generator.once_in(12) {
+            leaf.push(0);
+        }
+        let answer = tree.replace(place, &leaf);
+        assert_eq!(answer, book.replace(place, &leaf));
+        return answer;
+    }
+    let count = generator.pick(&[0, 1, 2, 3, 20]);
+    let drawn: Vec<(u64, Vec<u64>)> = (0..count).map(|_| (place(generator, places), leaf(generator, book.l))).collect();
+    let records: Vec<Record> = drawn.iter().map(|(place, leaf)| Record::new(*place, leaf).expect("at most six words")).collect();
+    let noted: Vec<(u64, &[u64])> = drawn.iter().map(|(place, leaf)| (*place, &leaf[..])).collect();
+    let answer = tree.push(&records);
+    assert_eq!(answer, book.push(&noted));
+    answer
+}
+
+/// The tree is the one of the book's leaves, and each place opens to its leaf and to no other.
+fn compare(tree: &Tree, book: &Book) {
+    let set = tree.set();
+    let leaves = book.leaves.concat();
+    assert_eq!(tree.store(), Tree::build(set, &leaves).expect("words").store());
+    assert_eq!(tree.root(), set.storeless_root(&leaves).expect("words"));
+    for (place, leaf) in (0..).zip(&book.leaves) {
+        assert_eq!(tree.leaf(place), Ok(&leaf[..]));
+        let opening = tree.open(place).expect("a place of the tree");
+        assert_eq!(set.verify(&tree.root(), leaf, &opening), Ok(Verdict::Accepted));
+        let mut other = leaf.clone();
+        other[0] = model::field::add(other[0], 1);
+        assert_eq!(set.verify(&tree.root(), &other, &opening), Ok(Verdict::Rejected));
+    }
+}
+
+#[test]
+fn a_tree_is_that_of_its_leaves_after_any_changes() {
+    let generator = &mut Generator(SEED);
+    let (mut done, mut refused) = (0, 0);
+    for shape in SHAPES {
+        for _ in 0..LISTS {
+            let height = generator.below(if shape.0 / shape.1 <= 4 { 4 } else { 2 }) as u64;
+            let Set { width, node_size, height, full_rounds, partial_rounds, diagonal, constants } =
+                set_of(generator, shape, height, 4, 3);
+            let (diagonal, constants) = (&diagonal[..], &constants[..]);
+            let numbers = SetNumbers { width, node_size, height, full_rounds, partial_rounds, diagonal, constants };
+            let set = ParameterSet::new(numbers).expect("a set that no row refuses");
+            let leaves = generator.words(set.leaf_words());
+            let mut tree = Tree::build(&set, &leaves).expect("words");
+            let l = set.node_size();
+            let mut book = Book { leaves: leaves.chunks(l).map(<[u64]>::to_vec).collect(), l, height };
+            for _ in 0..CHANGES {
+                match change(generator, &mut tree, &mut book) {
+                    Ok(_) => done += 1,
+                    Err(_) => refused += 1,
+                }
+            }
+            compare(&tree, &book);
+        }
+    }
+    assert!(done > 1000 && refused > 300, "{done} done, {refused} refused");
+}

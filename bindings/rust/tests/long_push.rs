@@ -1,0 +1,36 @@
+//! A push of one record over 2^32. It takes 224 GiB of addresses though no memory, and the library walks the records though it
+//! refuses them, which takes minutes: `cargo test --test long_push -- --ignored`.
+
+use opening_tree::{entries, Refusal, SetNumbers};
+use std::ffi::{c_int, c_void};
+
+const RECORDS: usize = (1 << 32) + 1;
+
+const PROT_READ: c_int = 1;
+const MAP_PRIVATE: c_int = 2;
+const MAP_ANONYMOUS: c_int = 0x20;
+const MAP_NORESERVE: c_int = 0x4000;
+
+extern "C" {
+    fn mmap(address: *mut c_void, length: usize, protection: c_int, flags: c_int, file: c_int, offset: i64) -> *mut c_void;
+    fn munmap(address: *mut c_void, length: usize) -> c_int;
+}
+
+#[test]
+#[ignore = "takes 224 GiB of addresses and minutes"]
+fn a_push_of_over_2_to_the_32_records_is_refused() {
+    let count = RECORDS * 7;
+    let flags = MAP_PRIVATE | MAP_ANONYMOUS | MAP_NORESERVE;
+    // SAFETY: a new mapping.
+    let mapped = unsafe { mmap(std::ptr::null_mut(), count * 8, PROT_READ, flags, -1, 0) };
+    assert_ne!(mapped as isize, -1, "the addresses were not granted");
+    // SAFETY: the mapping has so many numbers, all 0, that nothing writes.
+    let records: &[u64] = unsafe { std::slice::from_raw_parts(mapped.cast(), count) };
+    let (diagonal, constants) = (&[1, 2, 3, 4], &[0; 8]);
+    let set = SetNumbers { width: 4, node_size: 2, height: 0, full_rounds: 2, partial_rounds: 0, diagonal, constants };
+    let mut store = [1, 2];
+    assert_eq!(entries::push(&set, &mut store, records), Err(Refusal::BadLength));
+    assert_eq!(store, [1, 2]);
+    // SAFETY: the whole mapping, to which no reference is used any more.
+    assert_eq!(unsafe { munmap(mapped, count * 8) }, 0);
+}

@@ -1,0 +1,185 @@
+//! A call of any function, made to the library or to the model.
+
+use opening_tree::entries::{self, SetNumbers, Verdict};
+use opening_tree::Refusal;
+
+use crate::model;
+use crate::model::set::Set;
+
+#[derive(Clone, Copy, Debug, PartialEq, Eq)]
+pub enum Entry {
+    Sum,
+    Difference,
+    Product,
+    Power,
+    Inverse,
+    SeventhRoot,
+    Validate,
+    Permute,
+    Unpermute,
+    Compress,
+    Build,
+    Root,
+    StorelessRoot,
+    Open,
+    Verify,
+    ReadLevel,
+    Replace,
+    Push,
+    Extract,
+}
+
+impl Entry {
+    pub const ALL: [Entry; 19] = [
+        Entry::Sum,
+        Entry::Difference,
+        Entry::Product,
+        Entry::Power,
+        Entry::Inverse,
+        Entry::SeventhRoot,
+        Entry::Validate,
+        Entry::Permute,
+        Entry::Unpermute,
+        Entry::Compress,
+        Entry::Build,
+        Entry::Root,
+        Entry::StorelessRoot,
+        Entry::Open,
+        Entry::Verify,
+        Entry::ReadLevel,
+        Entry::Replace,
+        Entry::Push,
+        Entry::Extract,
+    ];
+
+    /// Whether it is one of the field's functions, which take no set.
+    pub fn is_of_field(self) -> bool {
+        (self as usize) < Entry::Validate as usize
+    }
+
+    /// The rows that it can give.
+    pub fn rows(self) -> Vec<u8> {
+        match self {
+            Entry::Inverse => vec![12, 13],
+            field if field.is_of_field() => vec![12],
+            Entry::Validate => (1..=9).collect(),
+            Entry::Open | Entry::Verify | Entry::ReadLevel | Entry::Replace | Entry::Push => (1..=12).collect(),
+            Entry::Extract => (1..=12).chain([14, 15]).collect(),
+            _ => (1..=10).chain([12]).collect(),
+        }
+    }
+}
+
+/// The arguments of a call. The numbers and buffers are in the order of the function's own parameters; the field's functions ignore
+/// the set.
+#[derive(Clone, Debug, PartialEq)]
+pub struct Call {
+    pub entry: Entry,
+    pub set: Set,
+    pub numbers: Vec<u64>,
+    pub buffers: Vec<Vec<u64>>,
+}
+
+#[derive(Clone, Copy, Debug, PartialEq, Eq)]
+pub enum Answer {
+    Done,
+    /// A word, a count or a level.
+    Number(u64),
+    Accepted,
+    Rejected,
+    Refused(u8),
+}
+
+impl From<Result<(), u8>> for Answer {
+    fn from(result: Result<(), u8>) -> Answer {
+        result.map_or_else(Answer::Refused, |()| Answer::Done)
+    }
+}
+
+impl From<Result<u64, u8>> for Answer {
+    fn from(result: Result<u64, u8>) -> Answer {
+        result.map_or_else(Answer::Refused, Answer::Number)
+    }
+}
+
+impl From<Result<bool, u8>> for Answer {
+    fn from(result: Result<bool, u8>) -> Answer {
+        result.map_or_else(Answer::Refused, |accepted| if accepted { Answer::Accepted } else { Answer::Rejected })
+    }
+}
+
+/// A refusal as its number.
+fn row<T>(result: Result<T, Refusal>) -> Result<T, u8> {
+    result.map_err(Refusal::number)
+}
+
+impl Call {
+    /// Calls the library.
+    pub fn ask_library(&mut self) -> Answer {
+        let set = &SetNumbers {
+            width: self.set.width,
+            node_size: self.set.node_size,
+            height: self.set.height,
+            full_rounds: self.set.full_rounds,
+            partial_rounds: self.set.partial_rounds,
+            diagonal: &self.set.diagonal,
+            constants: &self.set.constants,
+        };
+        match (self.entry, &self.numbers[..], &mut self.buffers[..]) {
+            (Entry::Sum, &[a, b], []) => row(entries::sum(a, b)).into(),
+            (Entry::Difference, &[a, b], []) => row(entries::difference(a, b)).into(),
+            (Entry::Product, &[a, b], []) => row(entries::product(a, b)).into(),
+            (Entry::Power, &[base, exponent], []) => row(entries::power(base, exponent)).into(),
+            (Entry::Inverse, &[x], []) => row(entries::inverse(x)).into(),
+            (Entry::SeventhRoot, &[y], []) => row(entries::seventh_root(y)).into(),
+            (Entry::Validate, [], []) => row(entries::validate(set)).into(),
+            (Entry::Permute, [], [state]) => row(entries::permute(set, state)).into(),
+            (Entry::Unpermute, [], [state]) => row(entries::unpermute(set, state)).into(),
+            (Entry::Compress, [], [state, node]) => row(entries::compress(set, state, node)).into(),
+            (Entry::Build, [], [leaves, store]) => row(entries::build(set, leaves, store)).into(),
+            (Entry::Root, [], [store, node]) => row(entries::root(set, store, node)).into(),
+            (Entry::StorelessRoot, [], [leaves, node]) => row(entries::storeless_root(set, leaves, node)).into(),
+            (Entry::Open, &[place], [store, siblings]) => row(entries::open(set, store, place, siblings)).into(),
+            (Entry::Verify, &[place], [root, leaf, siblings]) => {
+                row(entries::verify(set, root, place, leaf, siblings)).map(Verdict::is_accepted).into()
+            }
+            (Entry::ReadLevel, &[level], [siblings, part]) => row(entries::read_level(set, siblings, level, part)).into(),
+            (Entry::Replace, &[place], [store, leaf]) => row(entries::replace(set, store, place, leaf)).into(),
+            (Entry::Push, [], [store, records]) => row(entries::push(set, store, records)).into(),
+            (Entry::Extract, &[place], [root, a, a_siblings, b, b_siblings, a_row, b_row]) => {
+                row(entries::extract(set, root, place, a, a_siblings, b, b_siblings, a_row, b_row)).into()
+            }
+            _ => panic!("no such call: {self:?}"),
+        }
+    }
+
+    /// Calls the model.
+    pub fn ask_model(&mut self) -> Answer {
+        use model::entries;
+        let set = &self.set;
+        match (self.entry, &self.numbers[..], &mut self.buffers[..]) {
+            (Entry::Sum, &[a, b], []) => entries::sum(a, b).into(),
+            (Entry::Difference, &[a, b], []) => entries::difference(a, b).into(),
+            (Entry::Product, &[a, b], []) => entries::product(a, b).into(),
+            (Entry::Power, &[base, exponent], []) => entries::power(base, exponent).into(),
+            (Entry::Inverse, &[x], []) => entries::inverse(x).into(),
+            (Entry::SeventhRoot, &[y], []) => entries::seventh_root(y).into(),
+            (Entry::Validate, [], []) => entries::validate(set).into(),
+            (Entry::Permute, [], [state]) => entries::permute(set, state).into(),
+            (Entry::Unpermute, [], [state]) => entries::unpermute(set, state).into(),
+            (Entry::Compress, [], [state, node]) => entries::compress(set, state, node).into(),
+            (Entry::Build, [], [leaves, store]) => entries::build(set, leaves, store).into(),
+            (Entry::Root, [], [store, node]) => entries::root(set, store, node).into(),
+            (Entry::StorelessRoot, [], [leaves, node]) => entries::storeless_root(set, leaves, node).into(),
+            (Entry::Open, &[place], [store, siblings]) => entries::open(set, store, place, siblings).into(),
+            (Entry::Verify, &[place], [root, leaf, siblings]) => entries::verify(set, root, place, leaf, siblings).into(),
+            (Entry::ReadLevel, &[level], [siblings, part]) => entries::read_level(set, siblings, level, part).into(),
+            (Entry::Replace, &[place], [store, leaf]) => entries::replace(set, store, place, leaf).into(),
+            (Entry::Push, [], [store, records]) => entries::push(set, store, records).into(),
+            (Entry::Extract, &[place], [root, a, a_siblings, b, b_siblings, a_row, b_row]) => {
+                entries::extract(set, root, place, a, a_siblings, b, b_siblings, a_row, b_row).into()
+            }
+            _ => panic!("no such call: {self:?}"),
+        }
+    }
+}

@@ -1,0 +1,151 @@
+//! Calls that are done, but for what the store or an opening may hold. What a function only writes, or does not look at, is junk.
+
+use super::calls::{Call, Entry};
+use super::generator::Generator;
+use crate::model::field::{self, P};
+use crate::model::set::{judge, Set};
+use crate::model::tree;
+
+/// Every width with every node size.
+pub const SHAPES: [(u64, u64); 10] = [(4, 1), (4, 2), (8, 1), (8, 2), (8, 4), (12, 1), (12, 2), (12, 3), (12, 4), (12, 6)];
+
+/// The greatest height that row 5 lets pass.
+pub fn greatest_height(width: u64, node_size: u64) -> u64 {
+    let arity = (width / node_size) as u128;
+    (0..=32).take_while(|&h| arity.pow(h) <= 1 << 32).last().expect("0 passes").into()
+}
+
+/// A set of this shape that no row refuses, with drawn words.
+pub fn set_of(generator: &mut Generator, shape: (u64, u64), height: u64, full_rounds: u64, partial_rounds: u64) -> Set {
+    let (width, node_size) = shape;
+    loop {
+        let diagonal = (0..width).map(|_| generator.word().max(1)).collect();
+        let constants = generator.words((width * full_rounds + partial_rounds) as usize);
+        let set = Set { width, node_size, height, full_rounds, partial_rounds, diagonal, constants };
+        match judge(&set) {
+            Ok(()) => return set,
+            Err(row) => assert_eq!(row, 9, "only the diagonal's words are left to chance"),
+        }
+    }
+}
+
+/// A set for a function: a small tree where the function needs one, else of any height.
+pub fn set_for(generator: &mut Generator, entry: Entry) -> Set {
+    let shape = generator.pick(&SHAPES);
+    let arity = shape.0 / shape.1;
+    let small = match arity {
+        2 => 5,
+        3 | 4 => 3,
+        _ => 2,
+    };
+    let needs_tree = !matches!(entry, Entry::Permute | Entry::Unpermute | Entry::Compress | Entry::Verify | Entry::ReadLevel);
+    let greatest = if needs_tree || !generator.once_in(8) { small } else { greatest_height(shape.0, shape.1) };
+    let height = generator.below(greatest as usize + 1) as u64;
+    // Few rounds mostly, since they cost time.
+    let (full, partial) = if generator.once_in(4) { (6, 64) } else { (2, 4) };
+    let full_rounds = 2 + 2 * generator.below(full) as u64;
+    let partial_rounds = generator.below(partial + 1) as u64;
+    set_of(generator, shape, height, full_rounds, partial_rounds)
+}
+
+/// A place of the tree, at times the last.
+fn place(generator: &mut Generator, set: &Set) -> u64 {
+    let places = set.places() as u64;
+    if generator.once_in(8) {
+        places - 1
+    } else {
+        generator.number() % places
+    }
+}
+
+/// A store of words: that of drawn leaves, or any words. At times a few numbers of it are not words.
+fn store(generator: &mut Generator, set: &Set) -> Vec<u64> {
+    let mut store = if generator.once_in(2) {
+        let leaves = generator.words(set.leaf_words() as usize);
+        tree::store(set, &leaves)
+    } else {
+        generator.words(set.store_words() as usize)
+    };
+    if generator.once_in(4) {
+        for _ in 0..=generator.below(3) {
+            let at = generator.below(store.len());
+            store[at] = generator.no_word();
+        }
+    }
+    store
+}
+
+/// A flat record: the place, the leaf, and junk.
+fn record(generator: &mut Generator, set: &Set) -> Vec<u64> {
+    let l = set.node_size as usize;
+    let place = place(generator, set);
+    [vec![place], generator.words(l), generator.junk(6 - l)].concat()
+}
+
+/// A place, and a leaf and siblings with the root that they end in.
+pub fn offer(generator: &mut Generator, set: &Set) -> (u64, Vec<u64>, Vec<u64>, Vec<u64>) {
+    let place = place(generator, set);
+    let leaf = generator.words(set.node_size as usize);
+    let siblings = generator.words(set.opening_words() as usize);
+    let (_, root) = tree::climb(set, place, &leaf, &siblings);
+    (place, leaf, siblings, root)
+}
+
+/// A call of the function under the set.
+pub fn call(generator: &mut Generator, entry: Entry, set: Set) -> Call {
+    let (t, l) = (set.width as usize, set.node_size as usize);
+    let (numbers, buffers) = match entry {
+        Entry::Sum | Entry::Difference | Entry::Product => (generator.words(2), vec![]),
+        Entry::Power => {
+            let edges = [0, 1, 2, 7, 1 << 63, P - 2, P - 1, P, P + 1, u64::MAX];
+            let exponent = if generator.once_in(4) { generator.pick(&edges) } else { generator.number() };
+            (vec![generator.word(), exponent], vec![])
+        }
+        Entry::Inverse => (vec![generator.non_zero_word()], vec![]),
+        Entry::SeventhRoot => {
+            let word = generator.word();
+            (vec![if generator.once_in(2) { field::power(word, 7) } else { word }], vec![])
+        }
+        Entry::Validate => (vec![], vec![]),
+        Entry::Permute | Entry::Unpermute => (vec![], vec![generator.words(t)]),
+        Entry::Compress => (vec![], vec![generator.words(t), generator.junk(l)]),
+        Entry::Build => {
+            let leaves = generator.words(set.leaf_words() as usize);
+            (vec![], vec![leaves, generator.junk(set.store_words() as usize)])
+        }
+        Entry::Root => (vec![], vec![store(generator, &set), generator.junk(l)]),
+        Entry::StorelessRoot => (vec![], vec![generator.words(set.leaf_words() as usize), generator.junk(l)]),
+        Entry::Open => {
+            let opening = generator.junk(set.opening_words() as usize);
+            (vec![place(generator, &set)], vec![store(generator, &set), opening])
+        }
+        Entry::Verify => {
+            let (place, leaf, siblings, root) = offer(generator, &set);
+            (vec![place], vec![root, leaf, siblings])
+        }
+        Entry::ReadLevel => {
+            let level = generator.below(set.height.max(1) as usize);
+            let words = set.part_words() as usize;
+            let mut siblings = generator.junk(set.opening_words() as usize);
+            if set.height > 0 {
+                siblings[level * words..(level + 1) * words].copy_from_slice(&generator.words(words));
+            }
+            (vec![level as u64], vec![siblings, generator.junk(words)])
+        }
+        Entry::Replace => (vec![place(generator, &set)], vec![store(generator, &set), generator.words(l)]),
+        Entry::Push => {
+            // At times over sixteen.
+            let most = if generator.once_in(16) { 40 } else { 5 };
+            let records = (0..generator.below(most)).flat_map(|_| record(generator, &set)).collect();
+            (vec![], vec![store(generator, &set), records])
+        }
+        Entry::Extract => {
+            // Without a collision: the same leaf twice, or another that is not accepted.
+            let (place, leaf, siblings, root) = offer(generator, &set);
+            let other = if generator.once_in(2) { leaf.clone() } else { generator.words(l) };
+            let rows = (generator.junk(t), generator.junk(t));
+            (vec![place], vec![root, leaf, siblings.clone(), other, siblings, rows.0, rows.1])
+        }
+    };
+    Call { entry, set, numbers, buffers }
+}

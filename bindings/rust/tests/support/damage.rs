@@ -1,0 +1,138 @@
+//! Changes to a call, most of which some row refuses or a verdict rejects.
+
+use super::calls::{Call, Entry};
+use super::generator::Generator;
+use crate::model::field::{add, inverse, is_word, subtract, P};
+use crate::model::set::Set;
+
+/// What is put in the place of any number.
+pub const EDGES: [u64; 4] = [P - 1, P, P + 1, u64::MAX];
+
+/// One change.
+pub fn damage(generator: &mut Generator, call: &mut Call) {
+    if call.entry.is_of_field() {
+        let at = generator.below(call.numbers.len());
+        call.numbers[at] = generator.pick(&[0, 1, P - 1, P, P + 1, u64::MAX]);
+        return;
+    }
+    // Half of the changes are to the set, but for validation, which has nothing else.
+    if call.entry == Entry::Validate || generator.once_in(2) {
+        damage_set(generator, &mut call.set);
+    } else if !call.numbers.is_empty() && generator.once_in(4) {
+        call.numbers[0] = place(generator, call);
+    } else if matches!(call.entry, Entry::Verify | Entry::Extract) && generator.once_in(4) {
+        swap_leaf(generator, call);
+    } else {
+        damage_buffer(generator, call);
+    }
+}
+
+/// Swaps the leaf with one of its siblings.
+fn swap_leaf(generator: &mut Generator, call: &mut Call) {
+    let [_, leaf, siblings, ..] = &mut call.buffers[..] else { panic!("an opening has a leaf and siblings") };
+    let l = leaf.len().max(1);
+    if siblings.len() >= l {
+        let start = generator.below(siblings.len() / l) * l;
+        siblings[start..].iter_mut().zip(leaf).for_each(|(sibling, word)| std::mem::swap(sibling, word));
+    }
+}
+
+/// A place or level that is mostly too high.
+fn place(generator: &mut Generator, call: &Call) -> u64 {
+    let set = &call.set;
+    let small = set.height <= 32 && (1..=12).contains(&set.node_size) && (1..=12).contains(&set.width);
+    let bound = match call.entry {
+        Entry::ReadLevel => set.height,
+        _ if small => set.places().min(u64::MAX.into()) as u64,
+        _ => 1 << 32,
+    };
+    let places = [0, bound.wrapping_sub(1), bound, bound.saturating_add(1), 1 << 32, 1 << 63, u64::MAX];
+    generator.pick(&places)
+}
+
+fn damage_set(generator: &mut Generator, set: &mut Set) {
+    match generator.below(10) {
+        0 => {
+            set.width = generator.pick(&[0, 1, 2, 3, 4, 5, 6, 7, 8, 9, 10, 11, 12, 13, 16, 24, 1 << 32, (1 << 32) + 4, u64::MAX])
+        }
+        1 => {
+            let sizes = [0, 1, 2, 3, 4, 5, 6, 7, 8, 9, 12, 13, 24, set.width, set.width.wrapping_mul(2), (1 << 32) + 2, u64::MAX];
+            set.node_size = generator.pick(&sizes);
+        }
+        2 => {
+            set.full_rounds =
+                generator.pick(&[0, 1, 2, 3, 5, 7, 9, 11, 12, 13, 14, 16, 1 << 32, (1 << 32) + 2, u64::MAX - 1, u64::MAX])
+        }
+        3 => set.partial_rounds = generator.pick(&[0, 63, 64, 65, 66, 128, 1 << 32, 1 << 63, u64::MAX]),
+        4 => {
+            let heights =
+                [0, 8, 9, 10, 11, 12, 13, 14, 16, 17, 20, 21, 31, 32, 33, 34, 63, 64, 65, 128, 1 << 32, (1 << 32) + 1, u64::MAX];
+            set.height = generator.pick(&heights);
+        }
+        5 => resize(generator, &mut set.diagonal),
+        6 => resize(generator, &mut set.constants),
+        7 => {
+            let list = if generator.once_in(2) { &mut set.diagonal } else { &mut set.constants };
+            put(list, generator, EDGES.to_vec());
+        }
+        8 => put(&mut set.diagonal, generator, vec![0]),
+        _ => make_singular(generator, set),
+    }
+}
+
+/// Changes one word of the diagonal so that row 9 applies, if there is such a word.
+fn make_singular(generator: &mut Generator, set: &mut Set) {
+    if set.diagonal.is_empty() {
+        return;
+    }
+    let at = generator.below(set.diagonal.len());
+    let others = set.diagonal.iter().enumerate().filter(|&(i, &d)| i != at && d != 0 && is_word(d));
+    let sum = others.fold(1, |sum, (_, &d)| add(sum, inverse(d)));
+    if sum != 0 {
+        set.diagonal[at] = inverse(subtract(0, sum));
+    }
+}
+
+/// Another length.
+fn resize(generator: &mut Generator, list: &mut Vec<u64>) {
+    let lengths = [0, list.len() / 2, list.len().saturating_sub(1), list.len() + 1, list.len() + 7, list.len() * 2];
+    let length = generator.pick(&lengths);
+    list.resize(length, 1);
+}
+
+/// One of these numbers, anywhere in the list.
+fn put(list: &mut [u64], generator: &mut Generator, numbers: Vec<u64>) {
+    if !list.is_empty() {
+        let at = generator.below(list.len());
+        list[at] = generator.pick(&numbers);
+    }
+}
+
+fn damage_buffer(generator: &mut Generator, call: &mut Call) {
+    let l = call.set.node_size.clamp(1, 12) as usize;
+    let at = generator.below(call.buffers.len());
+    let is_records = call.entry == Entry::Push && at == 1;
+    let buffer = &mut call.buffers[at];
+    match generator.below(5) {
+        0 => resize(generator, buffer),
+        1 => put(buffer, generator, EDGES.to_vec()),
+        // A place of a record.
+        2 if is_records && !buffer.is_empty() => {
+            let record = generator.below(buffer.len().div_ceil(7));
+            buffer[record * 7] = generator.pick(&[1, 2, 1 << 32, (1 << 32) - 1, u64::MAX]);
+        }
+        // Two nodes swapped: leaves, siblings or whatever the buffer has.
+        2 => {
+            let nodes = buffer.len() / l;
+            if nodes > 0 {
+                let (a, b) = (generator.below(nodes), generator.below(nodes));
+                (0..l).for_each(|i| buffer.swap(a * l + i, b * l + i));
+            }
+        }
+        // Another word.
+        _ => {
+            let word = generator.word();
+            put(buffer, generator, vec![word]);
+        }
+    }
+}

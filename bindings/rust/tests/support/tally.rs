@@ -1,0 +1,95 @@
+//! Compares calls, and counts what they answered.
+
+use super::calls::{Answer, Call, Entry};
+use crate::model::field::is_word;
+
+/// Rows are at their numbers.
+const DONE: usize = 0;
+const REJECTED: usize = 16;
+
+#[derive(Default)]
+pub struct Tally {
+    counts: [[u64; 17]; 19],
+    /// Calls that were done though a number in their buffers was not a word, since it is not looked at.
+    passed_over: [u64; 19],
+    /// Extractions by the level they answered.
+    levels: Vec<u64>,
+}
+
+impl Tally {
+    /// Makes the call to the library and to the model, and compares the answers and every buffer.
+    pub fn compare(&mut self, call: Call) -> Answer {
+        let (mut library, mut model) = (call.clone(), call.clone());
+        let answer = library.ask_library();
+        assert_eq!(answer, model.ask_model(), "the answers differ: {call:?}");
+        assert_eq!(library, model, "the buffers differ after {call:?}");
+        if let Answer::Refused(row) = answer {
+            assert_eq!(library, call, "row {row} was given, and a buffer has changed");
+        }
+        self.count(&call, answer);
+        answer
+    }
+
+    fn count(&mut self, call: &Call, answer: Answer) {
+        let entry = call.entry as usize;
+        let column = match answer {
+            Answer::Done | Answer::Number(_) | Answer::Accepted => DONE,
+            Answer::Rejected => REJECTED,
+            Answer::Refused(row) => row as usize,
+        };
+        self.counts[entry][column] += 1;
+        let numbers = if call.entry == Entry::Power { &call.numbers[..] } else { &[] };
+        if column == DONE && call.buffers.iter().flatten().chain(numbers).any(|&n| !is_word(n)) {
+            self.passed_over[entry] += 1;
+        }
+        if let (Entry::Extract, Answer::Number(level)) = (call.entry, answer) {
+            let level = level as usize;
+            self.levels.resize(self.levels.len().max(level + 1), 0);
+            self.levels[level] += 1;
+        }
+    }
+
+    pub fn total(&self) -> u64 {
+        self.counts.iter().flatten().sum()
+    }
+
+    pub fn levels(&self) -> &[u64] {
+        &self.levels
+    }
+
+    pub fn print(&self) {
+        print!("{:14} {:>6}", "", "done");
+        (1..=15).for_each(|row| print!(" {row:>5}"));
+        println!(" rejected  not looked at");
+        for entry in Entry::ALL {
+            let counts = &self.counts[entry as usize];
+            print!("{:14} {:>6}", format!("{entry:?}"), counts[DONE]);
+            counts[1..=15].iter().for_each(|count| print!(" {count:>5}"));
+            println!(" {:>8} {:>14}", counts[REJECTED], self.passed_over[entry as usize]);
+        }
+        println!("extractions by level: {:?}", self.levels);
+        println!("calls: {}", self.total());
+    }
+
+    /// Every function was done, gave each row that it can and no other; verification rejected too; and numbers that a function does
+    /// not look at were not looked at.
+    pub fn assert_all_reached(&self) {
+        for entry in Entry::ALL {
+            let mut expected = vec![DONE];
+            expected.extend(entry.rows().iter().map(|&row| row as usize));
+            if entry == Entry::Verify {
+                expected.push(REJECTED);
+            }
+            let counts = &self.counts[entry as usize];
+            let reached: Vec<usize> = (0..counts.len()).filter(|&column| counts[column] > 0).collect();
+            assert_eq!(reached, expected, "{entry:?}: 0 is done, 16 rejected");
+            let looks_at_all = match entry {
+                Entry::Power => false,
+                entry if entry.is_of_field() => true,
+                Entry::Validate | Entry::Permute | Entry::Unpermute | Entry::Verify => true,
+                _ => false,
+            };
+            assert_eq!(self.passed_over[entry as usize] == 0, looks_at_all, "{entry:?}");
+        }
+    }
+}

@@ -1,0 +1,241 @@
+//! Cases worked by hand, and each function once with an answer that is known.
+
+mod model;
+
+use opening_tree::entries;
+use opening_tree::field::{self, P};
+use opening_tree::{Collision, Offer, Opening, ParameterSet, Record, Refusal, Root, SetNumbers, Tree, Verdict};
+
+/// The set T.
+const T: SetNumbers = SetNumbers {
+    width: 4,
+    node_size: 2,
+    height: 1,
+    full_rounds: 2,
+    partial_rounds: 0,
+    diagonal: &[1, 2, 3, 4],
+    constants: &[0, 0, 0, 0, P - 505316, P - 410806, P - 127289, P - 94519],
+};
+
+/// The set U.
+const U: SetNumbers = SetNumbers {
+    partial_rounds: 1,
+    constants: &[0, 0, 0, 0, P - 505316, P - 632615, P - 1454227, P - 1014482, P - 1010691],
+    ..T
+};
+
+/// A set that was made for two leaves which are both accepted at one place.
+const WEAK: SetNumbers = SetNumbers {
+    height: 2,
+    diagonal: &[2323977009865630898, 12518514558001707300, 668178666096051417, 9875627240877486526],
+    constants: &[
+        1372557943261738864,
+        5032861063245982280,
+        2810201305772277961,
+        1726419793238167099,
+        11056965576908617619,
+        1269056739062402058,
+        13680347514614465711,
+        4294967295,
+    ],
+    ..T
+};
+const WEAK_ROOT: [u64; 2] = [7353310026026904088, 13490686081725479607];
+const WEAK_PLACE: u64 = 3;
+const FIRST: Offer = Offer {
+    leaf: &[3669959116008525303, 17781029918724427263],
+    siblings: &[3257721517816812275, 4705944142922014037, 16445857043074958901, 14291850895486815322],
+};
+const SECOND: Offer = Offer {
+    leaf: &[8531481348199922329, 1313280933183081952],
+    siblings: &[2354424344695467737, 13835142492714613454, 3520250776031253462, 9297292628332905236],
+};
+
+fn set(numbers: SetNumbers) -> ParameterSet {
+    ParameterSet::new(numbers).expect("no row applies")
+}
+
+#[test]
+fn arithmetic() {
+    assert_eq!(field::product(P - 1, P - 1), Ok(1));
+    assert_eq!(field::product(1 << 32, 1 << 32), Ok(4294967295));
+    assert_eq!(field::product(1 << 48, 1 << 48), Ok(P - 1));
+    assert_eq!(field::difference(0, 1), Ok(P - 1));
+    assert_eq!(field::inverse(2), Ok(9223372034707292161));
+    assert_eq!(field::seventh_root(128), Ok(2));
+    assert_eq!(field::power(0, 0), Ok(1));
+}
+
+#[test]
+fn layers_of_the_model() {
+    use model::permutation::{external_layer, internal_layer};
+    assert_eq!(external_layer(&[1, 0, 0, 0]), [5, 4, 1, 1]);
+    assert_eq!(external_layer(&[1, 0, 0, 0, 0, 0, 0, 0]), [10, 8, 2, 2, 5, 4, 1, 1]);
+    assert_eq!(internal_layer(T.diagonal, &[1, 0, 0, 0]), [2, 1, 1, 1]);
+}
+
+/// Each round's constants take (1, 0, ..., 0) from (10, 8, 2, 2, 5, 4, 1, 1), so that the permutation ends as M_E of it.
+#[test]
+fn external_layer_of_eight() {
+    let back = [P - 9, P - 8, P - 2, P - 2, P - 5, P - 4, P - 1, P - 1];
+    let constants = [back, back].concat();
+    let set = set(SetNumbers { width: 8, diagonal: &[1; 8], constants: &constants, ..T });
+    let mut state = [1, 0, 0, 0, 0, 0, 0, 0];
+    set.permute(&mut state).expect("eight words");
+    assert_eq!(state, [10, 8, 2, 2, 5, 4, 1, 1]);
+}
+
+#[test]
+fn permutation_and_compression() {
+    for set in [set(T), set(U)] {
+        let mut state = [1, 0, 0, 0];
+        assert_eq!(set.permute(&mut state), Ok(()));
+        assert_eq!(state, [5, 4, 1, 1]);
+        assert_eq!(set.unpermute(&mut state), Ok(()));
+        assert_eq!(state, [1, 0, 0, 0]);
+        assert_eq!(set.compress(&[1, 0, 0, 0]), Ok(vec![6, 4]));
+    }
+}
+
+#[test]
+fn root_openings_and_verdicts() {
+    let set = set(T);
+    let tree = Tree::build(&set, &[1, 0, 0, 0]).expect("four words");
+    let root = Root::from(vec![6, 4]);
+    assert_eq!(tree.root(), root);
+    assert_eq!(set.storeless_root(&[1, 0, 0, 0]), Ok(root.clone()));
+    assert_eq!(tree.store(), [1, 0, 0, 0, 6, 4]);
+    assert_eq!(tree.open(0), Ok(Opening { place: 0, siblings: vec![0, 0] }));
+    assert_eq!(tree.open(1), Ok(Opening { place: 1, siblings: vec![1, 0] }));
+    assert_eq!(tree.leaf(0), Ok(&[1, 0][..]));
+    assert_eq!(tree.leaf(1), Ok(&[0, 0][..]));
+
+    let opening = tree.open(0).expect("a place of the tree");
+    assert_eq!(set.verify(&root, &[1, 0], &opening), Ok(Verdict::Accepted));
+    assert_eq!(set.verify(&root, &[0, 1], &opening), Ok(Verdict::Rejected));
+    assert_eq!(set.verify(&Root::from(vec![6, 5]), &[1, 0], &opening), Ok(Verdict::Rejected));
+    assert_eq!(set.verify(&root, &[1, 0], &Opening { place: 1, ..opening }), Ok(Verdict::Rejected));
+    assert_eq!(set.read_level(&tree.open(1).expect("a place of the tree"), 0), Ok(vec![1, 0]));
+}
+
+#[test]
+fn places_and_words_at_the_edge() {
+    let set = set(T);
+    let mut tree = Tree::build(&set, &[1, 0, 0, 0]).expect("four words");
+    let before = tree.clone();
+    for place in [2, 3, 1 << 32, u64::MAX] {
+        assert_eq!(tree.open(place), Err(Refusal::BadPlace));
+        assert_eq!(tree.leaf(place), Err(Refusal::BadPlace));
+        assert_eq!(tree.replace(place, &[0, 0]), Err(Refusal::BadPlace));
+        let other = Record { place, words: [0; 6] };
+        assert_eq!(tree.push(&[Record { place: 0, ..other }, other]), Err(Refusal::BadPlace));
+    }
+    assert_eq!(tree.replace(0, &[P, 0]), Err(Refusal::NotAWord));
+    assert_eq!(tree.replace(0, &[0, 0, 0]), Err(Refusal::BadLength));
+    assert_eq!(tree, before);
+    assert_eq!(tree.replace(0, &[P - 1, 0]), Ok(1));
+    assert_eq!(Tree::build(&set, &[P, 0, 0, 0]), Err(Refusal::NotAWord));
+    assert_eq!(Tree::build(&set, &[P - 1, 0, 0, 0]), Ok(tree));
+    assert_eq!(Tree::build(&set, &[1, 0, 0]), Err(Refusal::BadLength));
+}
+
+#[test]
+fn sets_at_the_edge() {
+    let refusal = |numbers: SetNumbers| ParameterSet::new(numbers).err();
+    assert_eq!(refusal(SetNumbers { diagonal: &[P - 4; 4], ..T }), Some(Refusal::SingularDiagonal));
+    assert_eq!(refusal(SetNumbers { height: 33, ..T }), Some(Refusal::BadHeight));
+    let twelve = SetNumbers { width: 12, node_size: 1, height: 8, diagonal: &[1; 12], constants: &[0; 24], ..T };
+    assert_eq!(refusal(SetNumbers { height: 9, ..twelve }), Some(Refusal::BadHeight));
+
+    let tall = set(SetNumbers { height: 32, ..T });
+    assert_eq!(tall.places(), 1 << 32);
+    assert_eq!(tall.leaf_words(), 1 << 33);
+    assert_eq!(tall.store_words(), (1 << 34) - 2);
+    assert_eq!(Tree::build(&tall, &[0; 4]), Err(Refusal::BadLength));
+    let wide = set(twelve);
+    assert_eq!((wide.arity(), wide.places()), (12, 429981696));
+    assert_eq!((wide.part_words(), wide.opening_words()), (11, 88));
+}
+
+#[test]
+fn a_collision_above_the_leaves() {
+    let set = set(WEAK);
+    let root = Root::from(&WEAK_ROOT[..]);
+    for offer in [FIRST, SECOND] {
+        let opening = Opening { place: WEAK_PLACE, siblings: offer.siblings.to_vec() };
+        assert_eq!(set.verify(&root, offer.leaf, &opening), Ok(Verdict::Accepted));
+    }
+    // The leaves are at odd places, so that the siblings come first.
+    let row = |offer: Offer| {
+        let node = set.compress(&[&offer.siblings[..2], offer.leaf].concat()).expect("four words");
+        [&offer.siblings[2..], &node].concat()
+    };
+    let collision = Collision { level: 1, first_row: row(FIRST), second_row: row(SECOND) };
+    assert_ne!(collision.first_row, collision.second_row);
+    assert_eq!(set.compress(&collision.first_row), Ok(WEAK_ROOT.to_vec()));
+    assert_eq!(set.compress(&collision.second_row), Ok(WEAK_ROOT.to_vec()));
+    assert_eq!(set.extract(&root, WEAK_PLACE, FIRST, SECOND), Ok(collision));
+    assert_eq!(set.extract(&root, WEAK_PLACE, FIRST, FIRST), Err(Refusal::EqualLeaves));
+    assert_eq!(set.extract(&root, WEAK_PLACE - 1, FIRST, SECOND), Err(Refusal::NotAccepted));
+}
+
+#[test]
+fn every_function_gives_a_known_answer() {
+    assert_eq!(entries::sum(P - 1, 2), Ok(1));
+    assert_eq!(entries::difference(0, 1), Ok(P - 1));
+    assert_eq!(entries::product(1 << 32, 1 << 32), Ok(4294967295));
+    assert_eq!(entries::power(2, 7), Ok(128));
+    assert_eq!(entries::inverse(2), Ok(9223372034707292161));
+    assert_eq!(entries::seventh_root(128), Ok(2));
+    assert_eq!(entries::validate(&T), Ok(()));
+
+    let mut state = [1, 0, 0, 0];
+    assert_eq!(entries::permute(&T, &mut state), Ok(()));
+    assert_eq!(state, [5, 4, 1, 1]);
+    assert_eq!(entries::unpermute(&T, &mut state), Ok(()));
+    assert_eq!(state, [1, 0, 0, 0]);
+    let mut node = [0; 2];
+    assert_eq!(entries::compress(&T, &state, &mut node), Ok(()));
+    assert_eq!(node, [6, 4]);
+
+    let mut store = [9; 6];
+    assert_eq!(entries::build(&T, &[1, 0, 0, 0], &mut store), Ok(()));
+    assert_eq!(store, [1, 0, 0, 0, 6, 4]);
+    let mut node = [0; 2];
+    assert_eq!(entries::root(&T, &store, &mut node), Ok(()));
+    assert_eq!(node, [6, 4]);
+    let mut node = [0; 2];
+    assert_eq!(entries::storeless_root(&T, &[1, 0, 0, 0], &mut node), Ok(()));
+    assert_eq!(node, [6, 4]);
+    let mut siblings = [9; 2];
+    assert_eq!(entries::open(&T, &store, 1, &mut siblings), Ok(()));
+    assert_eq!(siblings, [1, 0]);
+    assert_eq!(entries::verify(&T, &node, 1, &[0, 0], &siblings), Ok(Verdict::Accepted));
+    let mut part = [9; 2];
+    assert_eq!(entries::read_level(&T, &siblings, 0, &mut part), Ok(()));
+    assert_eq!(part, [1, 0]);
+
+    let mut store = [2, 3, 0, 0, 9, 9];
+    assert_eq!(entries::replace(&T, &mut store, 0, &[1, 0]), Ok(1));
+    assert_eq!(store, [1, 0, 0, 0, 6, 4]);
+    let mut store = [2, 3, 4, 5, 9, 9];
+    let records = [Record { place: 1, words: [0; 6] }, Record { place: 0, words: [1, 0, P, P, P, P] }];
+    assert_eq!(entries::push(&T, &mut store, entries::record_numbers(&records)), Ok(2));
+    assert_eq!(store, [1, 0, 0, 0, 6, 4]);
+
+    let (mut first_row, mut second_row) = ([0; 4], [0; 4]);
+    let level = entries::extract(
+        &WEAK,
+        &WEAK_ROOT,
+        WEAK_PLACE,
+        FIRST.leaf,
+        FIRST.siblings,
+        SECOND.leaf,
+        SECOND.siblings,
+        &mut first_row,
+        &mut second_row,
+    );
+    assert_eq!(level, Ok(1));
+    assert_eq!(first_row[..2], FIRST.siblings[2..]);
+    assert_eq!(second_row[..2], SECOND.siblings[2..]);
+}
