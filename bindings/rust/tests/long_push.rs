@@ -1,5 +1,4 @@
-//! A push of one record over 2^32. It takes 224 GiB of addresses though no memory, and the library walks the records though it
-//! refuses them, which takes minutes: `cargo test --test long_push -- --ignored`.
+//! A push of one record over 2^32. The list takes 224 GiB of addresses, though no memory: it is refused before a record is read.
 
 use opening_tree::{entries, Refusal, SetNumbers};
 use std::ffi::{c_int, c_void};
@@ -17,7 +16,6 @@ extern "C" {
 }
 
 #[test]
-#[ignore = "takes 224 GiB of addresses and minutes"]
 fn a_push_of_over_2_to_the_32_records_is_refused() {
     let count = RECORDS * 7;
     let flags = MAP_PRIVATE | MAP_ANONYMOUS | MAP_NORESERVE;

@@ -20,7 +20,7 @@ use Rattle.pushes.specs.declared.record.Record.{Record}
 use Rattle.pushes.specs.declared.tally.Tally.{Tally}
 use Rattle.pushes.specs.Pushes.{placesBelow, usedWords, fewRecords, pushing, pushRows, pushReply, pushed}
 use Rattle.pushes.specs.Passes.{Pass, pass, Going, beginOf, eachOf, finishOf}
-use Rattle.pushes.proofs.Passes.{begins, pushes, first-asks, second-asks}
+use Rattle.pushes.proofs.Passes.{begins, pushes, at-once, first-asks, second-asks}
 use Rattle.listed_pushes.specs.Listed.{listed, wholeRecords, listedRows, listedReply, listedPushed}
 use Rattle.listed_pushes.proofs.Listed.{listed-count}
 
@@ -77,6 +77,11 @@ module _ (s : ParameterSet) (xs ns : List ℕ) where
 
     begun-is : pass b xs ≡ begins s xs rs
     begun-is = ap (λ (t : Tally). pass t xs) begun-tally
+
+    pub early-is-refused : length ns % 7 ≡ 0 → b .row ≢ 0 → (refused (b .row) ≡ listedReply p s xs ns) × (xs ≡ listedPushed p s xs ns)
+    early-is-refused w o =
+        let R = at-once s xs rs b begun-tally o in
+        (R .0 ∙ whole-reply w, R .1 ∙ whole-pushed w)
 
     module _ (bytes : length ns * 8 < 2 ^ 63) where
       record-bytes : length rs * 56 < 2 ^ 63

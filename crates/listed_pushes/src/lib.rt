@@ -95,6 +95,9 @@ pub fn push_listed(set: ParameterSet, store: &mut [u64], numbers: &[u64]) -> Cha
         return Changed::Refused(row_of_part(set));
     }
     let begun = steps::begin(set, store, numbers.len() / 7);
+    if begun.row != 0 {
+        return Changed::Refused(begun.row);
+    }
     let tested = each(set, store, numbers, TEST, begun);
     let written = each(set, store, numbers, WRITE, tested);
     steps::finish(written)

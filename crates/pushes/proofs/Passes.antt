@@ -187,6 +187,18 @@ module _ (s : ParameterSet) (xs : List ℕ) (ys : List Record) where
   unfolding beginOf
   pushes = subst (λ (u : Pass). Right (eachOf p s 1 ys u)) (sym (first-pass (firstRow early))) (both-passes (firstRow early) refl)
 
+  -- where an early row applies, neither pass changes anything
+  pub at-once : (t : Tally) → t ≡ beginOf p s xs (length ys) → t .row ≢ 0 → (refused (t .row) ≡ pushReply p s xs ys) × (xs ≡ pushed p s xs ys)
+  unfolding mayWrite finishOf changedReply
+  at-once t e o =
+      let no : eqb (t .row) 0 ≡ false = ne-eqb (t .row) 0 o in
+      let tests : eachOf p s 0 ys (pass t xs) ≡ pass t xs = test-none s ys t xs no in
+      let writes : eachOf p s 1 ys (pass t xs) ≡ pass t xs = write-none s ys (pass t xs) (λ q. rw no) in
+      let stays = ap (λ (u : Tally). eachOf p s 1 ys (eachOf p s 0 ys (pass u xs))) (sym e) ∙ ap (eachOf p s 1 ys) tests ∙ writes in
+      let said : changedReply (finishOf t) ≡ refused (t .row) = rw no in
+      let R = subst Right stays pushes in
+      (sym said ∙ R .0, R .1)
+
   -- ---- what the passes presume
 
   module _ (bytes : length ys * 56 < 2 ^ 63) where

@@ -1,6 +1,6 @@
 use borrow.Author.Needs.{needs}
 use Rattle.change_entries.specs.Replacement.{changedReply}
-use Rattle.listed_pushes.proofs.Pushes.{part-is-refused, test-asks, write-asks, whole-is-pushed}
+use Rattle.listed_pushes.proofs.Pushes.{part-is-refused, early-is-refused, test-asks, write-asks, whole-is-pushed}
 use Rattle.listed_pushes.proofs.push_listed.Statement.{statement}
 use Rattle.listed_pushes.proofs.push_listed.Tie as tie
 
@@ -14,30 +14,40 @@ returns c = part-is-refused _ _ _ (c .before .if1 .taken) _ (c .row-of-part .ens
 begin-requires : tie.Need-begin-requires
 begin-requires c κs = search needs
 
+same-length : tie.Need-same-length
+same-length c = search needs
+
+-- an early row: nothing is read of the records
+returns-2 : tie.Need-returns-2
+unfolding changedReply
+returns-2 c =
+    let b = c .before .before in
+    early-is-refused _ _ _ _ (b .begin .ensures) (b .before .before .if1 .left) (c .if2 .taken)
+
 each-requires : tie.Need-each-requires
 each-requires c κs =
-    let b = c .before in
+    let b = c .before .before .before in
     let i = b .before .before .before .before .before in
     test-asks _ _ (i .args .numbers .now) _ (b .begin .ensures) (i .good .1 .1 .0 .1)
 
 each-requires-2 : tie.Need-each-requires-2
 each-requires-2 c κs =
     let t = c .before .before .before in
-    let b = t .before .before in
+    let b = t .before .before .before .before in
     let i = b .before .before .before .before .before in
     write-asks _ _ (i .args .numbers .now) _ (b .begin .ensures) (i .good .1 .1 .0 .1) _ _ (t .each .ensures)
 
 finish-requires : tie.Need-finish-requires
 finish-requires c κs = search needs
 
-same-length : tie.Need-same-length
-same-length c = search needs
+same-length-2 : tie.Need-same-length-2
+same-length-2 c = search needs
 
-returns-2 : tie.Need-returns-2
-returns-2 c =
+returns-3 : tie.Need-returns-3
+returns-3 c =
     let w = c .before .before .before in
     let t = w .before .before .before .before in
-    let b = t .before .before in
+    let b = t .before .before .before .before in
     whole-is-pushed _ _ _ _ (b .begin .ensures) (b .before .before .if1 .left) _ _ _ _ (t .each .ensures) (w .each2 .ensures) _ (c .finish .ensures)
 
 pub push-listed-spec : {M : Type 1} → statement M
@@ -47,8 +57,10 @@ push-listed-spec =
     row-of-part-requires
     returns
     begin-requires
+    same-length
+    returns-2
     each-requires
     each-requires-2
     finish-requires
-    same-length
-    returns-2)
+    same-length-2
+    returns-3)
