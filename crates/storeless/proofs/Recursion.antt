@@ -2,12 +2,12 @@
 use mathlib.Core.Path.{_≡_, sym, ap, ap₂, _∙_}
 use mathlib.Core.List.{List, _++_}
 use Prim.Native.Nat.{ℕ, suc, _+_, _*_, _-_, _^_, _≤_, _<_}
-use native.Mathlib.Nat.{mul-comm, zero-mul, suc-mul, pow-le-pow-right}
+use native.Mathlib.Nat.{mul-comm, zero-mul, suc-mul, add-mul, mul-le-mul-right, pow-le-pow-right}
 use native.Mathlib.Omega.{arith}
 use lib.ListN.{length, take}
 use Rattle.merkle.specs.Lists.{part, put}
 use Rattle.merkle.specs.Storeless.{nodeOf, rowOf, storelessRoot}
-use Rattle.merkle.proofs.Lists.{put-whole}
+use Rattle.merkle.proofs.Lists.{put-whole, joined-same, joined-parts}
 use Rattle.merkle.proofs.Levels.{fits, count-down, count-root}
 use Rattle.merkle.proofs.Storeless.{node-from-row, row-from-none, row-from-nodes, length-node-of}
 use Rattle.trees.specs.declared.Dimensions.{Dimensions}
@@ -16,12 +16,15 @@ use Rattle.storeless.specs.Within.{Within}
 use Rattle.trees.proofs.Shapes.{regular, width-small}
 
 module _ {d : Dimensions} {C leaves : List ℕ} where
-  -- a leaf is there
-  pub at-leaf : {j i : ℕ} → Within d C leaves j i 1 → j ≡ 0 → i * d .«node_size» + d .«node_size» ≤ length leaves
-  at-leaf {j} {i} w e =
+  -- n leaves are there, and one
+  pub at-leaves : {j f n : ℕ} → Within d C leaves j f n → j ≡ 0 → f * d .«node_size» + n * d .«node_size» ≤ length leaves
+  at-leaves {j} {f} {n} w e =
       let z : d .height - j ≡ d .height = omega arith in
-      let b : i < d .arity ^ d .height = omega (arith, w .nodes, ap (λ (n : ℕ). d .arity ^ n) z) in
-      omega (arith, fits (d .«node_size») (d .arity ^ d .height) i b, w .leafWords)
+      let b : f + n ≤ d .arity ^ d .height = omega (arith, w .nodes, ap (λ (a : ℕ). d .arity ^ a) z) in
+      omega (arith, mul-le-mul-right (d .«node_size») b, add-mul f n (d .«node_size»), w .leafWords)
+
+  pub at-leaf : {j i : ℕ} → Within d C leaves j i 1 → j ≡ 0 → i * d .«node_size» + d .«node_size» ≤ length leaves
+  at-leaf w e = omega (arith, at-leaves w e)
 
   -- a node's row is there
   pub at-row : {j i : ℕ} (m : ℕ) → j ≡ suc m → Within d C leaves j i 1 → Within d C leaves m (d .arity * i) (d .arity)
@@ -54,6 +57,10 @@ module _ {d : Dimensions} {C leaves : List ℕ} where
       let one : 1 ≤ d .arity = omega (arith, w .set .numbers .several) in
       omega (arith, w .nodes, w .set .numbers .few, pow-le-pow-right one {i = d .height - j} {j = d .height} (omega arith))
 
+  -- n nodes' words are at most a row's
+  pub row-fits : {j f n : ℕ} → Within d C leaves j f n → n * d .«node_size» ≤ 12
+  row-fits w = omega (arith, mul-le-mul-right (d .«node_size») (w .row), width-small (w .set .numbers))
+
   -- the last node's words are among the row's
   pub in-row : {j f n : ℕ} (m : ℕ) → n ≡ suc m → Within d C leaves j f n → m * d .«node_size» + d .«node_size» ≤ 12
   in-row m e w =
@@ -81,6 +88,17 @@ module _ (d : Dimensions) (D C leaves : List ℕ) where
   pub node-row : {j : ℕ} (i : ℕ) (m : ℕ) (x r : List ℕ) → j ≡ suc m → take (d .arity * d .«node_size») x ≡ rowOf (tree d D C) leaves m (d .arity * i) (d .arity)
       → take (d .«node_size») r ≡ tree d D C .compress (take (d .arity * d .«node_size») x) → take (d .«node_size») r ≡ nodeOf (tree d D C) leaves j i
   node-row i m x r e f g = rw e (g ∙ ap (tree d D C .compress) f ∙ sym (node-from-row (tree d D C) leaves m i))
+
+  -- leaves follow each other, as their words do
+  pub row-leaves : {j : ℕ} (f n : ℕ) (r : List ℕ) → j ≡ 0 → take (n * d .«node_size») r ≡ part (f * d .«node_size») (n * d .«node_size») leaves
+      → take (n * d .«node_size») r ≡ rowOf (tree d D C) leaves j f n
+  unfolding nodeOf rowOf
+  row-leaves f n r e g =
+      let l = d .«node_size» in
+      rw e (g
+      ∙ sym
+      (joined-same (λ c. part ((f + c) * l) l leaves) (λ c. part (f * l + c * l) l leaves) n (λ c b. ap (λ (a : ℕ). part a l leaves) (add-mul f c l))
+      ∙ joined-parts (f * l) l leaves n))
 
   pub row-none : (j f : ℕ) {n : ℕ} (r : List ℕ) → n ≡ 0 → take (n * d .«node_size») r ≡ rowOf (tree d D C) leaves j f n
   row-none j f r e =

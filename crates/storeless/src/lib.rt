@@ -3,6 +3,7 @@ ghost use mathlib.Core.Path.{_≡_};
 ghost use mathlib.Core.List.{_++_};
 ghost use Prim.Native.Nat.{_+_, _*_, _^_, _≤_};
 ghost use lib.ListN.{length, take};
+ghost use Rattle.merkle.specs.Lists.{part};
 ghost use Rattle.merkle.specs.Storeless.{nodeOf, rowOf, storelessRoot};
 ghost use Rattle.trees.specs.Shapes.{tree, ValidSet};
 ghost use Rattle.storeless.specs.Within.{Within};
@@ -17,6 +18,16 @@ fn put_node(row: [u64; 12], at: usize, node: [u64; 6], node_size: usize) -> [u64
     let mut next = row;
     nodes::copy_words(&node, 0, node_size, &mut next, at);
     next
+}
+
+// The `count` words of the leaves from `from` on, in the first places of a row.
+fn leaf_row(leaves: &[u64], from: usize, count: usize) -> [u64; 12]
+    requires { ⌜ (from + count ≤ length (now leaves)) × (count ≤ 12) ⌝ }
+    ensures { λ r. ⌜ take count r ≡ part from count (now (leaves .entry)) ⌝ }
+{
+    let mut row = [0u64; 12];
+    nodes::copy_words(leaves, from, count, &mut row, 0);
+    row
 }
 
 // Node i of a level: "a node above the leaves is worked out from its row".
@@ -39,7 +50,7 @@ fn node(
     nodes::compress_row(d, diagonal, constants, x)
 }
 
-// The n nodes of a level from the first on: "and a row from its nodes".
+// The n nodes of a level from the first on: "and a row from its nodes". Leaves are copied at once.
 fn row(
     d: Dimensions,
     diagonal: &[u64; 12],
@@ -52,13 +63,16 @@ fn row(
     requires { ⌜ Within d (now constants) (now leaves) level first n ⌝ }
     ensures { λ r. ⌜ take (n * d .«node_size») r ≡ rowOf (tree d (now (diagonal .entry)) (now (constants .entry))) (now (leaves .entry)) level first n ⌝ }
 {
+    let node_size = d.node_size;
+    if level == 0 {
+        return leaf_row(leaves, first * node_size, n * node_size);
+    }
     if n == 0 {
         return [0u64; 12];
     }
     let m = n - 1;
     let before = row(d, diagonal, constants, leaves, level, first, m);
     let x = node(d, diagonal, constants, leaves, level, first + m);
-    let node_size = d.node_size;
     put_node(before, m * node_size, x, node_size)
 }
 

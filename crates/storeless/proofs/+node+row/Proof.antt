@@ -1,10 +1,10 @@
--- A node falls to the row below it, and a row to its nodes but the last, and to the last.
+-- A node falls to the row below it, and a row to its nodes but the last, and to the last; a row of leaves is copied.
 use mathlib.Core.Path.{_≡_}
 use Prim.Native.Nat.{suc, _+_, _*_, _-_}
 use native.Mathlib.Omega.{arith}
 use lib.ListN.{replicate}
 use Rattle.trees.proofs.Shapes.{arity-small, node-small}
-use Rattle.storeless.proofs.Recursion.{at-leaf, at-row, at-fewer, at-last, place-small, in-row, node-leaf, node-row, row-none, row-more}
+use Rattle.storeless.proofs.Recursion.{at-leaf, at-leaves, at-row, at-fewer, at-last, place-small, row-fits, in-row, node-leaf, node-row, row-leaves, row-none, row-more}
 use Prim.Native.Nat.{ℕ, _<_}
 use borrow.Fn.Kinds.{In}
 use borrow.Fn.PlainCycle.{Measures, is, falls, and}
@@ -16,6 +16,7 @@ use Rattle.storeless.proofs.row.Kinds as row-kinds
 use Rattle.storeless.proofs.+node+row.Lts-row as row-lts
 use Rattle.trees.proofs.nodes.compress_row.Reads as compress-row-reads
 use Rattle.trees.proofs.nodes.node_at.Reads as node-at-reads
+use Rattle.storeless.proofs.leaf_row.Reads as leaf-row-reads
 use Rattle.storeless.proofs.put_node.Reads as put-node-reads
 use Rattle.storeless.proofs.+node+row.{statement}
 use Rattle.storeless.proofs.+node+row.Tie.{close}
@@ -119,7 +120,45 @@ node-returns-2 t c =
     let e : a .level ≡ suc (a .level - 1) = omega arith in
     node-row (a .d) (a .diagonal .now) (a .constants .now) (a .leaves .now) (a .i) (a .level - 1) (c .before .row .result) (c .compress-row .result) e (c .before .row .ensures) (c .compress-row .ensures)
 
+row-mul-leaf-row : (t : ℕ) → row-lts.Need-mul-leaf-row (
+  leaf-row-reads.Asked,
+  leaf-row-reads.Learnt,
+  row-below t,
+  row.Post,
+  node-below t,
+  node.Post,
+  put-node-reads.Asked,
+  put-node-reads.Learnt,
+) (row-at t) row.Post
+row-mul-leaf-row t c = omega (arith, at-leaves (c .before .before .pre .1) (c .if1 .taken))
+
+row-mul-leaf-row-2 : (t : ℕ) → row-lts.Need-mul-leaf-row-2 (
+  leaf-row-reads.Asked,
+  leaf-row-reads.Learnt,
+  row-below t,
+  row.Post,
+  node-below t,
+  node.Post,
+  put-node-reads.Asked,
+  put-node-reads.Learnt,
+) (row-at t) row.Post
+row-mul-leaf-row-2 t c = omega (arith, row-fits (c .before .before .pre .1))
+
+row-leaf-row-requires : (t : ℕ) → row-lts.Need-leaf-row-requires (
+  leaf-row-reads.Asked,
+  leaf-row-reads.Learnt,
+  row-below t,
+  row.Post,
+  node-below t,
+  node.Post,
+  put-node-reads.Asked,
+  put-node-reads.Learnt,
+) (row-at t) row.Post
+row-leaf-row-requires t c κs = (at-leaves (c .before .before .pre .1) (c .if1 .taken), row-fits (c .before .before .pre .1))
+
 row-returns : (t : ℕ) → row-lts.Need-returns (
+  leaf-row-reads.Asked,
+  leaf-row-reads.Learnt,
   row-below t,
   row.Post,
   node-below t,
@@ -128,10 +167,26 @@ row-returns : (t : ℕ) → row-lts.Need-returns (
   put-node-reads.Learnt,
 ) (row-at t) row.Post
 row-returns t c =
-    let a = c .before .before .args in
-    row-none (a .d) (a .diagonal .now) (a .constants .now) (a .leaves .now) (a .level) (a .first) (replicate 12 0) (c .if1 .taken)
+    let a = c .before .before .before .args in
+    row-leaves (a .d) (a .diagonal .now) (a .constants .now) (a .leaves .now) (a .first) (a .n) (c .leaf-row .result) (c .before .if1 .taken) (c .leaf-row .ensures)
+
+row-returns-2 : (t : ℕ) → row-lts.Need-returns-2 (
+  leaf-row-reads.Asked,
+  leaf-row-reads.Learnt,
+  row-below t,
+  row.Post,
+  node-below t,
+  node.Post,
+  put-node-reads.Asked,
+  put-node-reads.Learnt,
+) (row-at t) row.Post
+row-returns-2 t c =
+    let a = c .before .before .before .args in
+    row-none (a .d) (a .diagonal .now) (a .constants .now) (a .leaves .now) (a .level) (a .first) (replicate 12 0) (c .if2 .taken)
 
 row-sub-m : (t : ℕ) → row-lts.Need-sub-m (
+  leaf-row-reads.Asked,
+  leaf-row-reads.Learnt,
   row-below t,
   row.Post,
   node-below t,
@@ -142,6 +197,8 @@ row-sub-m : (t : ℕ) → row-lts.Need-sub-m (
 row-sub-m t c = omega arith
 
 row-row-requires : (t : ℕ) → row-lts.Need-row-requires (
+  leaf-row-reads.Asked,
+  leaf-row-reads.Learnt,
   row-below t,
   row.Post,
   node-below t,
@@ -150,11 +207,13 @@ row-row-requires : (t : ℕ) → row-lts.Need-row-requires (
   put-node-reads.Learnt,
 ) (row-at t) row.Post
 row-row-requires t c κs =
-    let a = c .before .before .args in
+    let a = c .before .before .before .args in
     let e : a .n ≡ suc (a .n - 1) = omega arith in
-    (omega (arith, c .before .before .pre .0), at-fewer (a .n - 1) e (c .before .before .pre .1))
+    (omega (arith, c .before .before .before .pre .0), at-fewer (a .n - 1) e (c .before .before .before .pre .1))
 
 row-add-node : (t : ℕ) → row-lts.Need-add-node (
+  leaf-row-reads.Asked,
+  leaf-row-reads.Learnt,
   row-below t,
   row.Post,
   node-below t,
@@ -163,10 +222,12 @@ row-add-node : (t : ℕ) → row-lts.Need-add-node (
   put-node-reads.Learnt,
 ) (row-at t) row.Post
 row-add-node t c =
-    let a = c .before .before .before .args in
-    omega (arith, place-small (c .before .before .before .pre .1))
+    let a = c .before .before .before .before .args in
+    omega (arith, place-small (c .before .before .before .before .pre .1))
 
 row-node-requires : (t : ℕ) → row-lts.Need-node-requires (
+  leaf-row-reads.Asked,
+  leaf-row-reads.Learnt,
   row-below t,
   row.Post,
   node-below t,
@@ -175,11 +236,13 @@ row-node-requires : (t : ℕ) → row-lts.Need-node-requires (
   put-node-reads.Learnt,
 ) (row-at t) row.Post
 row-node-requires t c κs =
-    let a = c .before .before .before .args in
+    let a = c .before .before .before .before .args in
     let e : a .n ≡ suc (a .n - 1) = omega arith in
-    (omega (arith, c .before .before .before .pre .0), at-last (a .n - 1) e (c .before .before .before .pre .1))
+    (omega (arith, c .before .before .before .before .pre .0), at-last (a .n - 1) e (c .before .before .before .before .pre .1))
 
 row-mul-put-node : (t : ℕ) → row-lts.Need-mul-put-node (
+  leaf-row-reads.Asked,
+  leaf-row-reads.Learnt,
   row-below t,
   row.Post,
   node-below t,
@@ -188,11 +251,13 @@ row-mul-put-node : (t : ℕ) → row-lts.Need-mul-put-node (
   put-node-reads.Learnt,
 ) (row-at t) row.Post
 row-mul-put-node t c =
-    let a = c .before .before .before .before .args in
+    let a = c .before .before .before .before .before .args in
     let e : a .n ≡ suc (a .n - 1) = omega arith in
-    omega (arith, in-row (a .n - 1) e (c .before .before .before .before .pre .1))
+    omega (arith, in-row (a .n - 1) e (c .before .before .before .before .before .pre .1))
 
 row-put-node-requires : (t : ℕ) → row-lts.Need-put-node-requires (
+  leaf-row-reads.Asked,
+  leaf-row-reads.Learnt,
   row-below t,
   row.Post,
   node-below t,
@@ -201,11 +266,13 @@ row-put-node-requires : (t : ℕ) → row-lts.Need-put-node-requires (
   put-node-reads.Learnt,
 ) (row-at t) row.Post
 row-put-node-requires t c κs =
-    let a = c .before .before .before .before .args in
+    let a = c .before .before .before .before .before .args in
     let e : a .n ≡ suc (a .n - 1) = omega arith in
-    (in-row (a .n - 1) e (c .before .before .before .before .pre .1), node-small (c .before .before .before .before .pre .1 .set .numbers))
+    (in-row (a .n - 1) e (c .before .before .before .before .before .pre .1), node-small (c .before .before .before .before .before .pre .1 .set .numbers))
 
-row-returns-2 : (t : ℕ) → row-lts.Need-returns-2 (
+row-returns-3 : (t : ℕ) → row-lts.Need-returns-3 (
+  leaf-row-reads.Asked,
+  leaf-row-reads.Learnt,
   row-below t,
   row.Post,
   node-below t,
@@ -213,8 +280,8 @@ row-returns-2 : (t : ℕ) → row-lts.Need-returns-2 (
   put-node-reads.Asked,
   put-node-reads.Learnt,
 ) (row-at t) row.Post
-row-returns-2 t c =
-    let a = c .before .before .before .before .before .args in
+row-returns-3 t c =
+    let a = c .before .before .before .before .before .before .args in
     let e : a .n ≡ suc (a .n - 1) = omega arith in
     row-more (a .d) (a .diagonal .now) (a .constants .now) (a .leaves .now) (a .level) (a .first) (a .n - 1) (c .before .before .row .result) (c .before .node .result) (c .put-node .result) e
     (c .before .before .row .ensures) (c .before .node .ensures) (c .put-node .ensures)
@@ -238,14 +305,18 @@ pub +node+row-spec : {M : Type 1} → statement M
     (node-compress-row-requires t)
     (node-returns-2 t))
     λ t. row-lts.spec
-    (row-below t, row.Post, node-below t, node.Post, put-node-reads.Asked, put-node-reads.Learnt)
+    (leaf-row-reads.Asked, leaf-row-reads.Learnt, row-below t, row.Post, node-below t, node.Post, put-node-reads.Asked, put-node-reads.Learnt)
     (row-at t)
     row.Post
+    (row-mul-leaf-row t)
+    (row-mul-leaf-row-2 t)
+    (row-leaf-row-requires t)
     (row-returns t)
+    (row-returns-2 t)
     (row-sub-m t)
     (row-row-requires t)
     (row-add-node t)
     (row-node-requires t)
     (row-mul-put-node t)
     (row-put-node-requires t)
-    (row-returns-2 t)
+    (row-returns-3 t)
