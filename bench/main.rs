@@ -105,7 +105,7 @@ impl Bench {
         let case = Case::<T>::new(l, height_near(size, T / l), draw);
         let sizes = case.sizes;
         eprintln!("t = {T}, l = {l}, h = {}", sizes.height);
-        let built = case.build(self.rounds(if size > 16 { 5 } else { 15 }));
+        let built = case.build(self.rounds(if size > 16 { 6 } else { 15 }));
         let mut add = |operation, times, target| self.add(operation, T, Some(l), Some(sizes), times, target);
         add("build", built, Some(build_target(T)));
         self.builds.push(Built {

@@ -51,8 +51,14 @@ fn clock() -> f64 {
     time.seconds as f64 + time.nanoseconds as f64 * 1e-9
 }
 
-/// Times the versions in turn, round by round, and gives the best time of each. Each version has a buffer of its own; after every
-/// round the buffers must be equal.
+/// A best time that improves by less than this is not better.
+const NOISE: f64 = 0.002;
+/// Rounds go on past their number while a best time still improves, at most so many times over.
+const PATIENCE: usize = 3;
+
+/// Times the versions in turn, round by round, and gives the best time of each. There is a buffer for each version, and from round
+/// to round they change places, so that none has the better memory; after every round the buffers must be equal. Rounds go on
+/// while a best time got better in the last few of them.
 fn race<F: Copy, const N: usize>(
     rounds: usize,
     start: &[u64],
@@ -61,13 +67,20 @@ fn race<F: Copy, const N: usize>(
 ) -> [f64; N] {
     let mut buffers: [Vec<u64>; N] = std::array::from_fn(|_| start.to_vec());
     let mut best = [f64::MAX; N];
-    for round in 0..rounds {
-        for i in 0..N {
+    let (mut round, mut improved) = (0, 0);
+    while round < rounds || (round < improved + 2 * N && round < PATIENCE * rounds) {
+        for (j, buffer) in buffers.iter_mut().enumerate() {
+            let i = (j + round) % N;
             let begun = clock();
-            work(versions[i], round, &mut buffers[i]);
-            best[i] = best[i].min(clock() - begun);
+            work(versions[i], round, buffer);
+            let taken = clock() - begun;
+            if taken < best[i] * (1.0 - NOISE) {
+                improved = round;
+            }
+            best[i] = best[i].min(taken);
         }
         assert!(buffers.windows(2).all(|two| two[0] == two[1]), "the versions differ");
+        round += 1;
     }
     best
 }
