@@ -22,6 +22,15 @@ pub struct Times {
 }
 
 impl Times {
+    /// The better of each.
+    pub fn best(self, other: Times) -> Times {
+        Times {
+            proved: self.proved.min(other.proved),
+            tuned: self.tuned.min(other.tuned),
+            plain: self.plain.min(other.plain),
+        }
+    }
+
     fn of(best: &[f64], calls: usize) -> Times {
         let n = calls as f64;
         Times {

@@ -1,2 +1,3 @@
--- The laws of calls through a set that is handed in.
+-- The laws of calls through a set that is handed in, and of a verdict's number.
 pub mod Calls
+pub mod Statements

@@ -1,2 +1,3 @@
--- What the functions for C return and leave.
+-- What the functions for C return and leave, and what is claimed of a verdict.
 pub mod Exports
+pub mod Statements
