@@ -13,7 +13,8 @@ use Rattle.refusals.proofs.LengthsPlacesAndWords as three
 use Rattle.parameters.specs.declared.ParameterSet.{ParameterSet}
 use Rattle.parameters.specs.ParameterSet.{setRows}
 use Rattle.parameters.proofs.Accepted.{set-numbered}
-use Rattle.tree_entries.specs.Trees.{leafCount, storeWords, has}
+use Rattle.trees.specs.SetTrees.{leafCount, storeWords}
+use Rattle.tree_entries.specs.Trees.{has}
 use Rattle.tree_entries.proofs.AcceptedTrees.{first-long, second-long}
 use Rattle.change_entries.specs.Replacement.{replaceRows}
 

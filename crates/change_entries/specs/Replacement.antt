@@ -7,7 +7,8 @@ use Rattle.parameters.specs.declared.ParameterSet.{ParameterSet}
 use Rattle.parameters.specs.ParameterSet.{setRows}
 use Rattle.merkle.specs.Openings.{opening}
 use Rattle.merkle.specs.Replacement.{Counted, replace}
-use Rattle.tree_entries.specs.Trees.{treeOf, storeWords, has, noPlace}
+use Rattle.trees.specs.SetTrees.{treeOf, storeWords}
+use Rattle.tree_entries.specs.Trees.{has, noPlace}
 use Rattle.change_entries.specs.declared.changed.Changed.{Changed}
 use Rattle.change_entries.specs.declared.changed.Changed.the-variants.{Compressions, Refused}
 

@@ -5,7 +5,7 @@ ghost use Rattle.refusals.specs.Table.{firstRow};
 ghost use Rattle.change_entries.specs.Replacement.{changedReply, replaceRows, replaceReply, replaced};
 use crate::changed::Changed;
 use parameters::ParameterSet;
-use tree_entries::sizes;
+use trees::sets;
 
 // The first row that turns back a set, a store, a place and a leaf, or 0.
 fn row_of_replace(set: ParameterSet, store: &[u64], place: u64, leaf: &[u64]) -> u8
@@ -15,19 +15,19 @@ fn row_of_replace(set: ParameterSet, store: &[u64], place: u64, leaf: &[u64]) ->
     if row != 0 {
         return row;
     }
-    if store.len() != sizes::store_words(set) {
+    if store.len() != sets::store_words(set) {
         return 10;
     }
     if leaf.len() as u64 != set.node_size {
         return 10;
     }
-    if sizes::places(set) as u64 <= place {
+    if sets::places(set) as u64 <= place {
         return 11;
     }
     if !parameters::all_words(leaf) {
         return 12;
     }
-    let d = sizes::dimensions(set);
+    let d = sets::dimensions(set);
     if !trees::opening_is_words(d, store, place as usize) {
         return 12;
     }
@@ -43,7 +43,7 @@ pub fn replace(set: ParameterSet, store: &mut [u64], place: u64, leaf: &[u64]) -
     if row != 0 {
         return Changed::Refused(row);
     }
-    let d = sizes::dimensions(set);
+    let d = sets::dimensions(set);
     let diagonal = set.diagonal;
     let constants = set.constants;
     let made = trees::replace(d, &diagonal, &constants, store, place as usize, leaf);

@@ -13,7 +13,8 @@ use Rattle.refusals.proofs.Table.{Numbered, refused-equations, done-equations}
 use Rattle.parameters.specs.declared.ParameterSet.{ParameterSet}
 use Rattle.parameters.specs.declared.Validation.{Validation}
 use Rattle.merkle.specs.Openings.{accepts}
-use Rattle.tree_entries.specs.Trees.{treeOf, verifyRows, verifyReply}
+use Rattle.trees.specs.SetTrees.{treeOf}
+use Rattle.tree_entries.specs.Trees.{verifyRows, verifyReply}
 use Rattle.tree_entries.proofs.AcceptedTrees.{verify-numbered}
 use Rattle.replies.specs.Replies.{verdictNumber}
 use Rattle.exports.specs.Exports.{through}

@@ -7,7 +7,8 @@ use Rattle.modular.specs.Goldilocks.{p}
 use Rattle.refusals.specs.Table.{firstRow}
 use Rattle.parameters.specs.declared.Validation.{Validation}
 use Rattle.merkle.specs.Openings.{accepts}
-use Rattle.tree_entries.specs.Trees.{treeOf, verifyRows, verifyReply}
+use Rattle.trees.specs.SetTrees.{treeOf}
+use Rattle.tree_entries.specs.Trees.{verifyRows, verifyReply}
 use Rattle.replies.specs.Replies.{verdictNumber}
 use Rattle.exports.specs.Exports.{through}
 

@@ -17,7 +17,8 @@ use Rattle.refusals.proofs.LengthsPlacesAndWords as three
 use Rattle.parameters.specs.declared.ParameterSet.{ParameterSet}
 use Rattle.parameters.specs.ParameterSet.{setRows}
 use Rattle.parameters.proofs.Accepted.{set-numbered}
-use Rattle.tree_entries.specs.Trees.{leafCount, openingWords, has, verifyRows}
+use Rattle.trees.specs.SetTrees.{leafCount, openingWords}
+use Rattle.tree_entries.specs.Trees.{has, verifyRows}
 use Rattle.tree_entries.proofs.AcceptedTrees.{first-long, second-long}
 use Rattle.extraction_entries.specs.Extraction.{Pair, opens, pairFits, pairRows, extractRows}
 
@@ -106,3 +107,15 @@ verify-passes s top q leaf siblings z e w i O =
     at-words p _ (set-numbered p s) _ _ _ z
     (both-good _ _ (and-true _ _ (eq-eqb _ _ e) (eq-eqb _ _ (O .leaf-long))) (eq-eqb _ _ (O .siblings-long))) (ap not (lt-ltb _ _ i))
     ∙ no-twelve p _ (words-append p _ _ w (words-append p _ _ (O .leaf-words) (O .siblings-words)))
+
+-- so rows 1 to 12 of a pair are past for either opening
+module _ (s : ParameterSet) (two : Pair) (first second : List ℕ) (none : firstRow (pairRows p s two first second) ≡ 0) where
+  pub first-passes : firstRow (verifyRows p s (two .root) (two .place) (two .firstLeaf) (two .firstSiblings)) ≡ 0
+  first-passes =
+      let A = pair-passed s two first second none in
+      verify-passes s (two .root) (two .place) (two .firstLeaf) (two .firstSiblings) (A .set) (A .root-long) (A .root-words) (A .place) (A .opening)
+
+  pub second-passes : firstRow (verifyRows p s (two .root) (two .place) (two .secondLeaf) (two .secondSiblings)) ≡ 0
+  second-passes =
+      let A = pair-passed s two first second none in
+      verify-passes s (two .root) (two .place) (two .secondLeaf) (two .secondSiblings) (A .set) (A .root-long) (A .root-words) (A .place) (A .other)

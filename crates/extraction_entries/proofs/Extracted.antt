@@ -17,8 +17,8 @@ use Rattle.merkle.specs.Extraction.{Collision, collideAt, withRows, extract}
 use Rattle.merkle.specs.Statements.{Extracts}
 use Rattle.merkle.proofs.Lists.{same-false}
 use Rattle.collisions.specs.Levels.{levelOr}
-use Rattle.tree_entries.specs.Trees.{treeOf}
-use Rattle.tree_entries.proofs.AcceptedTrees.{laws}
+use Rattle.trees.specs.SetTrees.{treeOf}
+use Rattle.trees.proofs.SetTrees.{laws}
 use Rattle.extraction_entries.specs.Extraction.{Pair, pairRows, bothAccepted, extractRows, collision, levelOf, firstOf, secondOf}
 use Rattle.extraction_entries.proofs.AcceptedPairs.{Paired, pair-numbered, pair-passed}
 

@@ -15,8 +15,8 @@ use Rattle.merkle.proofs.Lists.{ne-same}
 use Rattle.merkle.proofs.Openings.{length-path-row, path-row-words}
 use Rattle.trees.proofs.Shapes.{keeps-words}
 use Rattle.state_entries.specs.Permutation.{compressUnder}
-use Rattle.tree_entries.specs.Trees.{treeOf}
-use Rattle.tree_entries.proofs.AcceptedTrees.{valid-numbers, width-is, shape-regular}
+use Rattle.trees.specs.SetTrees.{treeOf}
+use Rattle.trees.proofs.SetTrees.{valid-numbers, width-is, shape-regular}
 use Rattle.extraction_entries.specs.Extraction.{Pair, bothAccepted, extractRows, collision, levelOf, firstOf, secondOf, extractReply, extractedFirst, extractedSecond}
 use Rattle.extraction_entries.specs.Statements.{IsRow, Collides, Written, Extracting}
 use Rattle.extraction_entries.proofs.AcceptedPairs.{Opening, extract-numbered}

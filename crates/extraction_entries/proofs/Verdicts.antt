@@ -15,7 +15,8 @@ use Rattle.merkle.specs.Lists.{same}
 use Rattle.merkle.specs.Openings.{accepts}
 use Rattle.tree_entries.specs.declared.verdict.Verdict.{Verdict}
 use Rattle.tree_entries.specs.declared.verdict.Verdict.the-variants.{Accepted, Rejected, Refused}
-use Rattle.tree_entries.specs.Trees.{treeOf, verdictReply, verifyRows, verifyReply}
+use Rattle.trees.specs.SetTrees.{treeOf}
+use Rattle.tree_entries.specs.Trees.{verdictReply, verifyRows, verifyReply}
 use Rattle.tree_entries.proofs.AcceptedTrees.{verify-numbered}
 use Rattle.extraction_entries.specs.Extraction.{Pair, pairRows, bothAccepted, extractRows}
 use Rattle.extraction_entries.proofs.AcceptedPairs.{pair-numbered}

@@ -9,7 +9,8 @@ use Rattle.parameters.specs.ParameterSet.{setRows}
 use Rattle.merkle.specs.Lists.{same}
 use Rattle.merkle.specs.Openings.{accepts}
 use Rattle.merkle.specs.Extraction.{Collision, extract}
-use Rattle.tree_entries.specs.Trees.{treeOf, openingWords, has, noPlace}
+use Rattle.trees.specs.SetTrees.{treeOf, openingWords}
+use Rattle.tree_entries.specs.Trees.{has, noPlace}
 use Rattle.extraction_entries.specs.declared.Extraction.{Extraction}
 use Rattle.extraction_entries.specs.declared.Extraction.the-variants.{Level, Refused}
 

@@ -1,18 +1,18 @@
 // The extractor of a collision from two leaves that are both accepted at one place, under a set that is handed in.
 ghost use mathlib.Core.Path.{_≡_};
-ghost use mathlib.Core.Bool.{not};
+ghost use mathlib.Core.Bool.{not, _&&_};
 ghost use mathlib.Core.List.{[], _∷_, _++_};
 ghost use Prim.Native.Nat.{ℕ};
 ghost use Rattle.modular.specs.Arithmetic.{allWords};
 ghost use Rattle.modular.specs.Goldilocks.{p};
 ghost use Rattle.refusals.specs.Table.{row, firstRow};
-ghost use Rattle.parameters.specs.ParameterSet.{setRows};
 ghost use Rattle.merkle.specs.Openings.{accepts};
-ghost use Rattle.tree_entries.specs.Trees.{treeOf, verifyRows};
-ghost use Rattle.extraction_entries.specs.Extraction.{extractionReply, pair, opens, pairFits, pairRows, extractRows, extractReply, extractedFirst, extractedSecond};
+ghost use Rattle.trees.specs.SetTrees.{treeOf, openingWords};
+ghost use Rattle.tree_entries.specs.Trees.{has, verifyRows};
+ghost use Rattle.extraction_entries.specs.Extraction.{extractionReply, pair, pairFits, pairRows, extractRows, extractReply, extractedFirst, extractedSecond};
 use parameters::ParameterSet;
 use tree_entries::Verdict;
-use tree_entries::sizes;
+use trees::sets;
 
 // The level of the collision, or the number of the table's row that turns the call back.
 pub enum Extraction {
@@ -20,20 +20,20 @@ pub enum Extraction {
     Refused(u8),
 }
 
-// Whether a leaf and its siblings have their lengths.
-fn opens(set: ParameterSet, leaf: &[u64], siblings: &[u64]) -> bool
-    requires { ⌜ firstRow (setRows p set) ≡ 0 ⌝ }
-    ensures { λ r. ⌜ r ≡ opens p set (now (leaf .entry)) (now (siblings .entry)) ⌝ }
+// Whether a leaf and its siblings have these lengths.
+fn opens(node_size: u64, beside: usize, leaf: &[u64], siblings: &[u64]) -> bool
+    ensures { λ r. ⌜ r ≡ (has (now (leaf .entry)) «node_size» && has (now (siblings .entry)) beside) ⌝ }
 {
-    if leaf.len() as u64 != set.node_size {
+    if leaf.len() as u64 != node_size {
         return false;
     }
-    siblings.len() == sizes::opening_words(set)
+    siblings.len() == beside
 }
 
-// Whether everything that is lent has its length.
+// Whether every list and buffer has its length, where `beside` is an opening's.
 fn pair_fits(
     set: ParameterSet,
+    beside: usize,
     root: &[u64],
     first: &[u64],
     first_siblings: &[u64],
@@ -42,16 +42,15 @@ fn pair_fits(
     first_row: &[u64],
     second_row: &[u64],
 ) -> bool
-    requires { ⌜ firstRow (setRows p set) ≡ 0 ⌝ }
-    ensures { λ r. ⌜ ((q : ℕ) → r ≡ pairFits p set (pair (now (root .entry)) q (now (first .entry)) (now («first_siblings» .entry)) (now (second .entry)) (now («second_siblings» .entry))) (now («first_row» .entry)) (now («second_row» .entry))) ⌝ }
+    ensures { λ r. ⌜ ((q : ℕ) → beside ≡ openingWords p set → r ≡ pairFits p set (pair (now (root .entry)) q (now (first .entry)) (now («first_siblings» .entry)) (now (second .entry)) (now («second_siblings» .entry))) (now («first_row» .entry)) (now («second_row» .entry))) ⌝ }
 {
     if root.len() as u64 != set.node_size {
         return false;
     }
-    if !opens(set, first, first_siblings) {
+    if !opens(set.node_size, beside, first, first_siblings) {
         return false;
     }
-    if !opens(set, second, second_siblings) {
+    if !opens(set.node_size, beside, second, second_siblings) {
         return false;
     }
     if first_row.len() as u64 != set.width {
@@ -103,8 +102,10 @@ fn row_of_pair(
     if row != 0 {
         return row;
     }
+    let beside = sets::opening_words(set);
     if !pair_fits(
         set,
+        beside,
         root,
         first,
         first_siblings,
@@ -115,7 +116,7 @@ fn row_of_pair(
     ) {
         return 10;
     }
-    if sizes::places(set) as u64 <= place {
+    if sets::places(set) as u64 <= place {
         return 11;
     }
     if !pair_is_words(root, first, first_siblings, second, second_siblings) {
@@ -124,10 +125,10 @@ fn row_of_pair(
     0
 }
 
-// The row that turns back an opening of such a pair: 14 where its verdict is not that it is accepted, or 0.
+// The row of an opening that rows 1 to 12 let through: 14 where its verdict is not that it is accepted, or 0.
 fn row_of_opening(set: ParameterSet, root: &[u64], place: u64, leaf: &[u64], siblings: &[u64]) -> u8
-    requires { ⌜ firstRow (verifyRows p set (now root) place (now leaf) (now siblings)) ≡ 0 ⌝ }
-    ensures { λ r. ⌜ r ≡ firstRow (row 14 (not (accepts (treeOf p set) (set .height) (now (root .entry)) place (now (leaf .entry)) (now (siblings .entry)))) ∷ []) ⌝ }
+    ensures { λ r. ⌜ (firstRow (verifyRows p set (now (root .entry)) place (now (leaf .entry)) (now (siblings .entry))) ≡ 0
+        → r ≡ firstRow (row 14 (not (accepts (treeOf p set) (set .height) (now (root .entry)) place (now (leaf .entry)) (now (siblings .entry)))) ∷ [])) ⌝ }
 {
     match tree_entries::verify(set, root, place, leaf, siblings) {
         Verdict::Accepted => 0,
@@ -209,7 +210,7 @@ pub fn extract(
     if row != 0 {
         return Extraction::Refused(row);
     }
-    let d = sizes::dimensions(set);
+    let d = sets::dimensions(set);
     let diagonal = set.diagonal;
     let constants = set.constants;
     let at = place as usize;

@@ -20,7 +20,8 @@ use Rattle.merkle.specs.Lists.{put}
 use Rattle.merkle.specs.Replacement.{changed}
 use Rattle.merkle.proofs.Lists.{length-put, words-put}
 use Rattle.merkle.proofs.Levels.{fits}
-use Rattle.tree_entries.specs.Trees.{treeOf, leafCount, has}
+use Rattle.trees.specs.SetTrees.{treeOf, leafCount}
+use Rattle.tree_entries.specs.Trees.{has}
 use Rattle.pushes.specs.declared.record.Record.{Record}
 use Rattle.pushes.specs.Pushes.{leafOf, changesOf, placesBelow, usedWords, fewRecords}
 use Rattle.history.specs.LeafBook.{Call, replacement, push, enterAll, bookRows, bookCount, bookReply, entered, bookAfter}

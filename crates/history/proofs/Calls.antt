@@ -16,8 +16,9 @@ use Rattle.parameters.specs.ParameterSet.{setRows}
 use Rattle.parameters.proofs.Accepted.{set-numbered}
 use Rattle.merkle.specs.Openings.{opening}
 use Rattle.merkle.specs.Statements.{Replaced, Proper, Pushed}
-use Rattle.tree_entries.specs.Trees.{treeOf, leafCount, storeWords, has, noPlace}
-use Rattle.tree_entries.proofs.AcceptedTrees.{laws}
+use Rattle.trees.specs.SetTrees.{treeOf, leafCount, storeWords}
+use Rattle.tree_entries.specs.Trees.{has, noPlace}
+use Rattle.trees.proofs.SetTrees.{laws}
 use Rattle.change_entries.specs.Replacement.{replaceRows, replaceReply, replaced}
 use Rattle.change_entries.specs.Replacement as entry
 use Rattle.pushes.specs.declared.record.Record.{Record}

@@ -11,7 +11,8 @@ use Rattle.refusals.specs.Table.{firstRow, done}
 use Rattle.parameters.specs.declared.ParameterSet.{ParameterSet}
 use Rattle.parameters.specs.ParameterSet.{setRows}
 use Rattle.merkle.specs.Openings.{accepts}
-use Rattle.tree_entries.specs.Trees.{treeOf, verifyReply}
+use Rattle.trees.specs.SetTrees.{treeOf}
+use Rattle.tree_entries.specs.Trees.{verifyReply}
 use Rattle.extraction_entries.specs.Extraction.{Pair, pair, bothAccepted, extractRows, collision, levelOf, extractReply}
 use Rattle.extraction_entries.specs.Statements.{Collides}
 use Rattle.extraction_entries.proofs.AcceptedPairs.{Paired, pair-passes}

@@ -18,7 +18,7 @@ use Rattle.merkle.specs.Lists.{part, put}
 use Rattle.merkle.specs.Replacement.{Change}
 use Rattle.merkle.proofs.Lists.{part-put, part-put-before, part-put-behind}
 use Rattle.merkle.proofs.Levels.{fits}
-use Rattle.tree_entries.specs.Trees.{leafCount}
+use Rattle.trees.specs.SetTrees.{leafCount}
 use Rattle.pushes.specs.declared.record.Record.{Record}
 use Rattle.pushes.specs.Pushes.{leafOf, changesOf, usedWords}
 use Rattle.history.specs.LeafBook.{Call, replacement, push, leafAt, enterAll, bookRows, bookCount, bookReply, entered, bookAfter, bookLeaves}

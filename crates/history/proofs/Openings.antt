@@ -18,8 +18,10 @@ use Rattle.parameters.specs.ParameterSet.{setRows}
 use Rattle.parameters.proofs.Accepted.{set-numbered}
 use Rattle.merkle.specs.Levels.{root}
 use Rattle.merkle.specs.Openings.{opening, accepts}
-use Rattle.tree_entries.specs.Trees.{treeOf, leafCount, storeWords, openingWords, has, openRows, openReply, opened, verifyRows, verifyReply}
-use Rattle.tree_entries.proofs.AcceptedTrees.{laws, root-long, open-numbered, verify-numbered, verify-passed}
+use Rattle.trees.specs.SetTrees.{treeOf, leafCount, storeWords, openingWords}
+use Rattle.tree_entries.specs.Trees.{has, openRows, openReply, opened, verifyRows, verifyReply}
+use Rattle.trees.proofs.SetTrees.{laws, root-long}
+use Rattle.tree_entries.proofs.AcceptedTrees.{open-numbered, verify-numbered, verify-passed}
 use Rattle.extraction_entries.proofs.AcceptedPairs.{Opening, verify-passes}
 use Rattle.history.specs.LeafBook.{leafAt}
 use Rattle.history.specs.Demand3.{rootOf}

@@ -21,8 +21,10 @@ use Rattle.merkle.proofs.Lists.{words-part, length-part}
 use Rattle.merkle.proofs.Levels.{fits}
 use Rattle.merkle.proofs.Statements.{word-laws}
 use Rattle.trees.proofs.Shapes.{keeps-words, node-small}
-use Rattle.tree_entries.specs.Trees.{treeOf, leafCount, leafWords, storeWords, has, buildRows, buildReply, built}
-use Rattle.tree_entries.proofs.AcceptedTrees.{valid-numbers, shape-regular, laws, build-numbered, build-passed}
+use Rattle.trees.specs.SetTrees.{treeOf, leafCount, leafWords, storeWords}
+use Rattle.tree_entries.specs.Trees.{has, buildRows, buildReply, built}
+use Rattle.trees.proofs.SetTrees.{valid-numbers, shape-regular, laws}
+use Rattle.tree_entries.proofs.AcceptedTrees.{build-numbered, build-passed}
 use Rattle.history.specs.LeafBook.{leafAt}
 use Rattle.history.proofs.Replies.{reply-none}
 

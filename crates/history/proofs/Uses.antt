@@ -11,8 +11,9 @@ use Rattle.refusals.specs.Table.{firstRow, Reply, done}
 use Rattle.refusals.proofs.Table.{none, reply-done}
 use Rattle.refusals.proofs.LengthsPlacesAndWords as three
 use Rattle.parameters.specs.declared.ParameterSet.{ParameterSet}
-use Rattle.tree_entries.specs.Trees.{leafCount, storeWords, openingWords, has, built, opened, verifyReply}
-use Rattle.tree_entries.proofs.AcceptedTrees.{laws}
+use Rattle.trees.specs.SetTrees.{leafCount, storeWords, openingWords}
+use Rattle.tree_entries.specs.Trees.{has, built, opened, verifyReply}
+use Rattle.trees.proofs.SetTrees.{laws}
 use Rattle.pushes.specs.Pushes.{placesBelow, usedWords, fewRecords}
 use Rattle.extraction_entries.specs.Extraction.{Pair, extractRows, collision, levelOf, extractReply, extractedFirst, extractedSecond}
 use Rattle.extraction_entries.specs.Statements.{IsRow}

@@ -8,7 +8,8 @@ use Rattle.modular.specs.Goldilocks.{p}
 use Rattle.refusals.specs.Table.{Reply, done}
 use Rattle.parameters.specs.declared.ParameterSet.{ParameterSet}
 use Rattle.merkle.specs.Levels.{root}
-use Rattle.tree_entries.specs.Trees.{treeOf, leafCount, storeWords, openingWords, buildReply, built, openReply, opened, verifyReply}
+use Rattle.trees.specs.SetTrees.{treeOf, leafCount, storeWords, openingWords}
+use Rattle.tree_entries.specs.Trees.{buildReply, built, openReply, opened, verifyReply}
 use Rattle.extraction_entries.specs.Extraction.{pair}
 use Rattle.extraction_entries.specs.Statements.{Collides}
 use Rattle.pushes.specs.declared.record.Record.{Record}

@@ -9,7 +9,8 @@ use Rattle.modular.specs.Goldilocks.{p}
 use Rattle.refusals.specs.Table.{Reply, refused, done}
 use Rattle.parameters.specs.declared.ParameterSet.{ParameterSet}
 use Rattle.merkle.specs.Replacement.{Change}
-use Rattle.tree_entries.specs.Trees.{leafCount, leafWords, buildReply}
+use Rattle.trees.specs.SetTrees.{leafCount, leafWords}
+use Rattle.tree_entries.specs.Trees.{buildReply}
 use Rattle.pushes.specs.Pushes.{changesOf}
 use Rattle.history.specs.LeafBook.{Call, replacement, push, leafAt, bookReply, bookLeaves}
 use Rattle.history.specs.Demand3.{Typed}

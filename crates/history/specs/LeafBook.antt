@@ -8,7 +8,8 @@ use lib.ListN.{length}
 use Rattle.refusals.specs.Table.{TableRow, row, notWords, Reply, reply, after}
 use Rattle.parameters.specs.declared.ParameterSet.{ParameterSet}
 use Rattle.merkle.specs.Lists.{part, put}
-use Rattle.tree_entries.specs.Trees.{leafCount, has}
+use Rattle.trees.specs.SetTrees.{leafCount}
+use Rattle.tree_entries.specs.Trees.{has}
 use Rattle.pushes.specs.declared.record.Record.{Record}
 use Rattle.pushes.specs.Pushes.{leafOf, placesBelow, usedWords, fewRecords}
 

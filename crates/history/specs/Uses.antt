@@ -11,7 +11,8 @@ use Rattle.refusals.specs.Table.{done}
 use Rattle.parameters.specs.declared.ParameterSet.{ParameterSet}
 use Rattle.merkle.specs.Storeless.{storelessRoot}
 use Rattle.state_entries.specs.Permutation.{compressUnder}
-use Rattle.tree_entries.specs.Trees.{treeOf, leafCount, openingWords, buildReply, built, opened, verifyReply}
+use Rattle.trees.specs.SetTrees.{treeOf, leafCount, openingWords}
+use Rattle.tree_entries.specs.Trees.{buildReply, built, opened, verifyReply}
 use Rattle.extraction_entries.specs.Extraction.{pair}
 use Rattle.extraction_entries.specs.Statements.{IsRow, Collides}
 use Rattle.pushes.specs.declared.record.Record.{Record}

@@ -13,7 +13,8 @@ use Rattle.refusals.proofs.Table.{row-applies, first-front, first-none, refused
 use Rattle.parameters.specs.declared.ParameterSet.{ParameterSet}
 use Rattle.parameters.specs.ParameterSet.{setRows}
 use Rattle.parameters.proofs.Accepted.{set-numbered}
-use Rattle.tree_entries.specs.Trees.{leafCount, storeWords, has}
+use Rattle.trees.specs.SetTrees.{leafCount, storeWords}
+use Rattle.tree_entries.specs.Trees.{has}
 use Rattle.change_entries.specs.declared.changed.Changed.{Changed}
 use Rattle.change_entries.specs.Replacement.{changedReply}
 use Rattle.pushes.specs.declared.record.Record.{Record}

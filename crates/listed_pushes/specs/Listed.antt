@@ -7,7 +7,8 @@ use lib.ListN.{length, getD, drop}
 use Rattle.refusals.specs.Table.{TableRow, row, notWords, Reply, reply, after}
 use Rattle.parameters.specs.declared.ParameterSet.{ParameterSet}
 use Rattle.parameters.specs.ParameterSet.{setRows}
-use Rattle.tree_entries.specs.Trees.{leafCount, storeWords, has}
+use Rattle.trees.specs.SetTrees.{leafCount, storeWords}
+use Rattle.tree_entries.specs.Trees.{has}
 use Rattle.pushes.specs.declared.record.Record.{Record}
 use Rattle.pushes.specs.Pushes.{placesBelow, usedWords, fewRecords, pushing}
 

@@ -4,3 +4,4 @@ mod Diagonal
 mod Heights
 mod Padding
 pub mod Accepted
+pub mod AcceptedSets

@@ -2,7 +2,7 @@
 ghost use mathlib.Core.Path.{_≡_};
 ghost use mathlib.Core.Bool.{true, false};
 ghost use Prim.Native.Nat.{_≤_};
-ghost use lib.ListN.{length};
+ghost use lib.ListN.{length, take};
 ghost use Rattle.modular.specs.Arithmetic.{allWords};
 ghost use Rattle.modular.specs.Goldilocks.{p};
 ghost use Rattle.refusals.specs.Table.{firstRow};
@@ -406,6 +406,14 @@ pub fn validate(
     )
 }
 
+// The first numbers of a list.
+fn first<'a>(list: &'a [u64], count: usize) -> &'a [u64]
+    requires { ⌜ count ≤ length (now list) ⌝ }
+    ensures { λ r. ⌜ now r ≡ take count (now (list .entry)) ⌝ }
+{
+    &list[..count]
+}
+
 // The first of the rows that applies to a set that is handed in, or 0. Its places beyond the used ones are not read.
 pub fn row_of_set(
     width: u64,
@@ -413,10 +421,9 @@ pub fn row_of_set(
     height: u64,
     full_rounds: u64,
     partial_rounds: u64,
-    diagonal: &[u64],
-    constants: &[u64],
+    diagonal: &[u64; 12],
+    constants: &[u64; 208],
 ) -> u8
-    requires { ⌜ (length (now diagonal) ≡ 12) × (length (now constants) ≡ 208) ⌝ }
     ensures { λ r. ⌜ r ≡ firstRow (heldRows p width «node_size» height «full_rounds» «partial_rounds» (now (diagonal .entry)) (now (constants .entry))) ⌝ }
 {
     let row = row_of_numbers(width, node_size, height, full_rounds, partial_rounds);
@@ -425,5 +432,5 @@ pub fn row_of_set(
     }
     let used = width as usize;
     let count = (width * full_rounds + partial_rounds) as usize;
-    row_of_lists(&diagonal[..used], &constants[..count])
+    row_of_lists(first(diagonal, used), first(constants, count))
 }

@@ -22,7 +22,8 @@ use Rattle.merkle.specs.Storeless.{storelessRoot}
 use Rattle.state_entries.specs.declared.outcome.Outcome.{Outcome}
 use Rattle.state_entries.specs.declared.outcome.Outcome.the-variants.{Done, Refused}
 use Rattle.state_entries.specs.Permutation.{outcomeReply}
-use Rattle.tree_entries.specs.Trees.{treeOf, leafWords, has, storelessRows, storelessReply, storelessRooted}
+use Rattle.trees.specs.SetTrees.{treeOf, leafWords}
+use Rattle.tree_entries.specs.Trees.{has, storelessRows, storelessReply, storelessRooted}
 use Rattle.program.specs.Program.{readWidth, readNodeSize, readHeight, readFullRounds, readPartialRounds, readDiagonal, readConstants, readLeaves, readSet, readValidation, readRows, readRoot, badByteCount, programReply, numbersOf, lines, refusedLine, replyText, rootText, decimal, digits, EmptyInput}
 
 -- Rows that do not apply leave the reply to those after them.

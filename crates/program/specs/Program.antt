@@ -11,7 +11,8 @@ use Rattle.parameters.specs.declared.Validation.{Validation}
 use Rattle.parameters.specs.ParameterSet.{held, validation}
 use Rattle.parameters.specs.Rows.{constantCount, validationRows}
 use Rattle.merkle.specs.Storeless.{storelessRoot}
-use Rattle.tree_entries.specs.Trees.{treeOf, leafWords, has}
+use Rattle.trees.specs.SetTrees.{treeOf, leafWords}
+use Rattle.tree_entries.specs.Trees.{has}
 
 -- "8-byte little-endian numbers": the number of some bytes, the lowest first
 unfoldable pub littleEndian : List ℕ → ℕ

@@ -19,7 +19,8 @@ use Rattle.parameters.specs.ParameterSet.{setRows}
 use Rattle.parameters.proofs.Accepted.{set-numbered}
 use Rattle.merkle.specs.Replacement.{Counted, replaceFrom, pushFrom, push}
 use Rattle.trees.specs.Shapes.{counted}
-use Rattle.tree_entries.specs.Trees.{treeOf, leafCount, storeWords, has}
+use Rattle.trees.specs.SetTrees.{treeOf, leafCount, storeWords}
+use Rattle.tree_entries.specs.Trees.{has}
 use Rattle.change_entries.specs.Replacement.{changedReply}
 use Rattle.pushes.specs.declared.record.Record.{Record}
 use Rattle.pushes.specs.declared.tally.Tally.{Tally}

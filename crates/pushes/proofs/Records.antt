@@ -20,8 +20,9 @@ use Rattle.parameters.proofs.Accepted.{set-numbered}
 use Rattle.merkle.specs.Replacement.{Counted, replaceFrom}
 use Rattle.merkle.proofs.Replacement.{replace-made}
 use Rattle.trees.specs.Shapes.{counted}
-use Rattle.tree_entries.specs.Trees.{treeOf, leafCount, storeWords, has}
-use Rattle.tree_entries.proofs.AcceptedTrees as trees
+use Rattle.trees.specs.SetTrees.{treeOf, leafCount, storeWords}
+use Rattle.tree_entries.specs.Trees.{has}
+use Rattle.trees.proofs.SetTrees as tree-of
 use Rattle.pushes.specs.declared.record.Record.{Record}
 use Rattle.pushes.specs.declared.tally.Tally.{Tally}
 use Rattle.pushes.specs.Pushes.{leafOf}
@@ -30,7 +31,7 @@ use Rattle.pushes.specs.Passes.{Pass, pass, Going, earlyRows, begun, beg
 -- a leaf is among a record's six words
 pub leaf-in-record : (s : ParameterSet) → firstRow (setRows p s) ≡ 0 → s .«node_size» ≤ 6
 leaf-in-record s none =
-    omega (arith, mul-le-mul-right (s .«node_size») (trees.valid-numbers s none .several), trees.width-is s none, trees.width-fits s none)
+    omega (arith, mul-le-mul-right (s .«node_size») (tree-of.valid-numbers s none .several), tree-of.width-is s none, tree-of.width-fits s none)
 
 -- ---- the beginning
 
@@ -115,8 +116,8 @@ write-follows s r u accepted = go (mayWrite (u .tally) (r .place)) refl
     go true e =
         let none = accepted (may-no-row (u .tally) (r .place) e) in
         let counts : done .made ≡ u .tally .made + s .height =
-        replace-made (treeOf p s) (trees.shape-regular s none) (s .height) (r .place) (leafOf (s .«node_size») r) (counted (u .store) (u .tally .made)) in
-        record { row = refl; places = refl; made = omega (arith, counts, trees.valid-numbers s none .low) }
+        replace-made (treeOf p s) (tree-of.shape-regular s none) (s .height) (r .place) (leafOf (s .«node_size») r) (counted (u .store) (u .tally .made)) in
+        record { row = refl; places = refl; made = omega (arith, counts, tree-of.valid-numbers s none .low) }
     go false e = same (u .tally)
 
 step-follows : (s : ParameterSet) (phase : ℕ) (r : Record) (u : Pass) → (u .tally .row ≡ 0 → firstRow (setRows p s) ≡ 0) → Follows (u .tally) (stepOf p s phase r u .tally)

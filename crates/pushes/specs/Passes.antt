@@ -12,7 +12,8 @@ use Rattle.parameters.specs.declared.ParameterSet.{ParameterSet}
 use Rattle.parameters.specs.ParameterSet.{setRows}
 use Rattle.merkle.specs.Replacement.{Counted, replaceFrom}
 use Rattle.trees.specs.Shapes.{counted}
-use Rattle.tree_entries.specs.Trees.{treeOf, leafCount, storeWords, has}
+use Rattle.trees.specs.SetTrees.{treeOf, leafCount, storeWords}
+use Rattle.tree_entries.specs.Trees.{has}
 use Rattle.change_entries.specs.declared.changed.Changed.{Changed}
 use Rattle.change_entries.specs.declared.changed.Changed.the-variants.{Compressions, Refused}
 use Rattle.pushes.specs.declared.record.Record.{Record}

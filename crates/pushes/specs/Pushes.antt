@@ -8,7 +8,8 @@ use Rattle.refusals.specs.Table.{TableRow, row, notWords, Reply, reply, after}
 use Rattle.parameters.specs.declared.ParameterSet.{ParameterSet}
 use Rattle.parameters.specs.ParameterSet.{setRows}
 use Rattle.merkle.specs.Replacement.{Counted, Change, push}
-use Rattle.tree_entries.specs.Trees.{treeOf, leafCount, storeWords, has}
+use Rattle.trees.specs.SetTrees.{treeOf, leafCount, storeWords}
+use Rattle.tree_entries.specs.Trees.{has}
 use Rattle.pushes.specs.declared.record.Record.{Record}
 
 -- "each a place and six words, of which the first l are the leaf"

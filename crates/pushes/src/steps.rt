@@ -9,13 +9,13 @@ ghost use Rattle.refusals.specs.Table.{firstRow};
 ghost use Rattle.parameters.specs.ParameterSet.{setRows};
 ghost use Rattle.merkle.specs.Replacement.{replaceFrom};
 ghost use Rattle.trees.specs.Shapes.{counted};
-ghost use Rattle.tree_entries.specs.Trees.{treeOf, leafCount, storeWords};
+ghost use Rattle.trees.specs.SetTrees.{treeOf, leafCount, storeWords};
 ghost use Rattle.pushes.specs.Passes.{pass, Going, beginOf, testOf, mayWrite, stepOf, finishOf};
 use crate::record::Record;
 use crate::tally::Tally;
 use change_entries::Changed;
 use parameters::ParameterSet;
-use tree_entries::sizes;
+use trees::sets;
 
 // A refusal by one of rows 1 to 10.
 fn turned_back(row: u8) -> Tally
@@ -38,7 +38,7 @@ pub fn begin(set: ParameterSet, store: &[u64], count: usize) -> Tally
     if row != 0 {
         return turned_back(row);
     }
-    if store.len() != sizes::store_words(set) {
+    if store.len() != sets::store_words(set) {
         return turned_back(10);
     }
     if 4294967296 < count {
@@ -46,7 +46,7 @@ pub fn begin(set: ParameterSet, store: &[u64], count: usize) -> Tally
     }
     Tally {
         row: 0,
-        places: sizes::places(set) as u64,
+        places: sets::places(set) as u64,
         placed: true,
         words: parameters::all_words(store),
         made: 0,
@@ -105,7 +105,7 @@ fn write_record(set: ParameterSet, store: &mut [u64], place: u64, words: [u64; 6
     ensures { λ r. ⌜ (r ≡ replaceFrom (treeOf p set) (set .height) place (take (set .«node_size») words) (counted (now (store .entry)) made) .made)
         × (now (store .exit) ≡ replaceFrom (treeOf p set) (set .height) place (take (set .«node_size») words) (counted (now (store .entry)) made) .store) ⌝ }
 {
-    let d = sizes::dimensions(set);
+    let d = sets::dimensions(set);
     let diagonal = set.diagonal;
     let constants = set.constants;
     let end = d.node_size;

@@ -18,9 +18,10 @@ use Rattle.parameters.proofs.Accepted.{set-numbered}
 use Rattle.merkle.specs.Lists.{put, part}
 use Rattle.merkle.specs.Openings.{siblingsAt}
 use Rattle.merkle.proofs.Lists.{length-part, part-whole, put-whole}
-use Rattle.tree_entries.specs.Trees.{treeOf, openingWords, has}
-use Rattle.readers.proofs.Readings.{within}
-use Rattle.readers.specs.Copies.{partWords, copyRows}
+use Rattle.trees.specs.SetTrees.{treeOf, openingWords, partWords}
+use Rattle.tree_entries.specs.Trees.{has}
+use Rattle.trees.proofs.Counts.{within}
+use Rattle.readers.specs.Copies.{copyRows}
 
 pub record Passed (s : ParameterSet) (siblings : List ℕ) (j : ℕ) (buffer : List ℕ) : Type 0 where
   pub set : firstRow (setRows p s) ≡ 0

@@ -1,14 +1,14 @@
 -- What passes where no row turns a reading back, where a level's part lies, and what a reading's row and words come to.
 use mathlib.Core.Path.{_≡_, refl, sym, ap, _∙_}
 use mathlib.Core.Logic.{_≢_}
-use mathlib.Core.Bool.{not}
+use mathlib.Core.Bool.{not, cond}
 use mathlib.Core.List.{List, []}
-use Prim.Native.Nat.{ℕ, zero, suc, _+_, _*_, _-_, _≤_, _<_}
-use native.Mathlib.Nat.{mul-le-mul, mul-le-mul-right, suc-mul}
+use Prim.Native.Nat.{ℕ, zero, suc, _*_, _/_, _<_}
+use native.Mathlib.Nat.{mul-div-cancel-left}
 use native.Mathlib.Omega.{arith}
 use lib.Dec.{ltb}
 use lib.ListN.{length}
-use borrow.Author.Tests.{eqb-true, ltb-true, not-false}
+use borrow.Author.Tests.{eqb-true, ltb-true, lt-ltb, not-false}
 use Rattle.modular.specs.Goldilocks.{p}
 use Rattle.refusals.specs.Table.{firstRow, done}
 use Rattle.refusals.proofs.Table.{Numbered, refused-equations, done-equations}
@@ -16,16 +16,11 @@ use Rattle.refusals.proofs.LengthsPlacesAndWords as three
 use Rattle.parameters.specs.declared.ParameterSet.{ParameterSet}
 use Rattle.parameters.specs.ParameterSet.{setRows}
 use Rattle.parameters.proofs.Accepted.{set-numbered}
-use Rattle.merkle.specs.Openings.{siblingsAt}
-use Rattle.tree_entries.specs.Trees.{treeOf, openingWords, has}
+use Rattle.merkle.specs.Lists.{part}
+use Rattle.merkle.specs.Openings.{siblingsAt, siblingSize}
+use Rattle.trees.specs.SetTrees.{treeOf, openingWords}
+use Rattle.tree_entries.specs.Trees.{has}
 use Rattle.readers.specs.Readers.{readRows, readReply, readWords, partReply}
-
--- a level's part lies within the parts of h levels
-pub within : (n : ℕ) {j h : ℕ} → j < h → j * n + n ≤ h * n
-within n {j} {h} l = omega (arith, suc-mul j n, mul-le-mul-right n l)
-
-pub part-few : (k l : ℕ) → k ≤ 12 → l ≤ 12 → (k - 1) * l ≤ 132
-part-few k l a b = mul-le-mul {n₁ = k - 1} {n₂ = 11} (omega arith) b
 
 pub record Passed (s : ParameterSet) (siblings : List ℕ) (j : ℕ) : Type 0 where
   pub set : firstRow (setRows p s) ≡ 0
@@ -55,6 +50,16 @@ module _ (s : ParameterSet) (siblings : List ℕ) (j : ℕ) where
   pub level-words : firstRow (readRows p s siblings j) ≡ 0 → siblingsAt (treeOf p s) siblings j ≡ readWords p s siblings j
   unfolding readReply readWords
   level-words z = done-equations (readRows p s siblings j) (siblingsAt (treeOf p s) siblings j) [] (siblingsAt (treeOf p s) siblings j) read-numbered z .1
+
+  -- an opening is h equal parts, a level's the one of its index
+  pub equal-parts : firstRow (readRows p s siblings j) ≡ 0
+      → cond (ltb j (s .height)) (part (j * (length siblings / s .height)) (length siblings / s .height) siblings) [] ≡ siblingsAt (treeOf p s) siblings j
+  unfolding siblingsAt
+  equal-parts z =
+      let P = read-passed z in
+      let n : ℕ = siblingSize (treeOf p s) in
+      let size : length siblings / s .height ≡ n = ap (λ (m : ℕ). m / s .height) (P .long) ∙ mul-div-cancel-left n {n = s .height} (omega (arith, P .level)) in
+      rw (lt-ltb j (s .height) (P .level)) (ap (λ (m : ℕ). part (j * m) m siblings) size)
 
   -- the row and the words together are the reply
   pub replies : (n : ℕ) (words : List ℕ) → n ≡ firstRow (readRows p s siblings j) → words ≡ readWords p s siblings j → partReply n words ≡ readReply p s siblings j

@@ -1,17 +1,14 @@
 -- What an opening reader copies to a lent buffer, for callers that cannot hold a view: the buffer has to be of the part's length.
 use mathlib.Core.Bool.{not, _&&_}
 use mathlib.Core.List.{List, [], _∷_, _++_}
-use Prim.Native.Nat.{ℕ, _-_, _*_}
+use Prim.Native.Nat.{ℕ}
 use lib.Dec.{ltb}
 use Rattle.refusals.specs.Table.{TableRow, row, notWords, Reply, reply, after}
 use Rattle.parameters.specs.declared.ParameterSet.{ParameterSet}
 use Rattle.parameters.specs.ParameterSet.{setRows}
 use Rattle.merkle.specs.Openings.{siblingsAt}
-use Rattle.tree_entries.specs.Trees.{treeOf, openingWords, has}
-
--- the words of a level's part
-abbrev pub partWords : ℕ → ParameterSet → ℕ
-partWords p s = (treeOf p s .arity - 1) * s .«node_size»
+use Rattle.trees.specs.SetTrees.{treeOf, openingWords, partWords}
+use Rattle.tree_entries.specs.Trees.{has}
 
 unfoldable pub copyRows : ℕ → ParameterSet → List ℕ → ℕ → List ℕ → List TableRow
 copyRows p s siblings j buffer =

@@ -7,7 +7,8 @@ use Rattle.refusals.specs.Table.{TableRow, row, notWords, Reply, refused, done,
 use Rattle.parameters.specs.declared.ParameterSet.{ParameterSet}
 use Rattle.parameters.specs.ParameterSet.{setRows}
 use Rattle.merkle.specs.Openings.{siblingsAt}
-use Rattle.tree_entries.specs.Trees.{treeOf, openingWords, has}
+use Rattle.trees.specs.SetTrees.{treeOf, openingWords}
+use Rattle.tree_entries.specs.Trees.{has}
 
 -- "11 | a reader's level not below h"; "the reader checks only the part it hands back", so row 12 is of that part alone.
 unfoldable pub readRows : ℕ → ParameterSet → List ℕ → ℕ → List TableRow

@@ -2,22 +2,11 @@
 ghost use mathlib.Core.Path.{_≡_};
 ghost use Rattle.modular.specs.Goldilocks.{p};
 ghost use Rattle.refusals.specs.Table.{firstRow};
-ghost use Rattle.parameters.specs.ParameterSet.{setRows};
 ghost use Rattle.state_entries.specs.Permutation.{outcomeReply};
-ghost use Rattle.readers.specs.Copies.{partWords, copyRows, copyReply, copied};
-use crate::levels;
+ghost use Rattle.readers.specs.Copies.{copyRows, copyReply, copied};
 use parameters::ParameterSet;
 use state_entries::Outcome;
-use tree_entries::sizes;
-
-// The numbers of a level's part.
-fn part_words(set: ParameterSet) -> usize
-    requires { ⌜ firstRow (setRows p set) ≡ 0 ⌝ }
-    ensures { λ r. ⌜ r ≡ partWords p set ⌝ }
-{
-    let d = sizes::dimensions(set);
-    levels::part_size(d.arity, d.node_size)
-}
+use trees::sets;
 
 // The first row that turns back a set, siblings, a level and a buffer to be written, or 0.
 fn row_of_copy(set: ParameterSet, siblings: &[u64], level: u64, buffer: &[u64]) -> u8
@@ -27,16 +16,16 @@ fn row_of_copy(set: ParameterSet, siblings: &[u64], level: u64, buffer: &[u64]) 
     if row != 0 {
         return row;
     }
-    if siblings.len() != sizes::opening_words(set) {
+    if siblings.len() != sets::opening_words(set) {
         return 10;
     }
-    if buffer.len() != part_words(set) {
+    if buffer.len() != sets::part_words(set) {
         return 10;
     }
     if set.height <= level {
         return 11;
     }
-    let words = levels::words_at(set, siblings, level);
+    let words = sets::level_words(set, siblings, level);
     if !parameters::all_words(words) {
         return 12;
     }
@@ -52,7 +41,7 @@ pub fn copy_level(set: ParameterSet, siblings: &[u64], level: u64, buffer: &mut 
     if row != 0 {
         return Outcome::Refused(row);
     }
-    let words = levels::words_at(set, siblings, level);
+    let words = sets::level_words(set, siblings, level);
     trees::nodes::copy_words(words, 0, words.len(), buffer, 0);
     Outcome::Done
 }

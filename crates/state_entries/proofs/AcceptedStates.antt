@@ -17,10 +17,11 @@ use Rattle.parameters.specs.ParameterSet.{setRows}
 use Rattle.parameters.proofs.Accepted.{set-numbered}
 use Rattle.state_entries.specs.Permutation.{stateRows, compressRows}
 use Rattle.refusals.proofs.LengthsAndWords.{all-numbered, passed}
-use Rattle.state_entries.proofs.AcceptedSets as sets
+use Rattle.parameters.proofs.AcceptedSets as sets
 
 -- What the core is handed.
 pub record Accepted (p : ℕ) (s : ParameterSet) (xs : List ℕ) : Type 0 where
+  pub set : firstRow (setRows p s) ≡ 0
   pub width : Width (s .width)
   pub half-some : 1 ≤ s .«full_rounds» / 2
   pub half-few : s .«full_rounds» / 2 ≤ 6
@@ -40,6 +41,7 @@ unfolding setRows
 by-set p s xs positive none long words =
     let N = sets.numbers p _ _ _ _ _ _ _ positive none in
     record {
+      set = none;
       width = N .width;
       half-some = sets.half-some p _ _ _ _ _ _ _ positive none;
       half-few = sets.half-few p _ _ _ _ _ _ _ positive none;

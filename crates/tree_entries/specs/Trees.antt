@@ -1,46 +1,18 @@
 -- What the entries of the tree reply and leave, for any set, numbers and buffers.
 use mathlib.Core.Bool.{Bool, true, false, not, cond, _&&_}
 use mathlib.Core.List.{List, [], _∷_, _++_}
-use Prim.Native.Nat.{ℕ, _*_, _-_, _/_, _^_}
+use Prim.Native.Nat.{ℕ}
 use lib.Dec.{eqb, ltb}
 use lib.ListN.{length}
 use Rattle.refusals.specs.Table.{TableRow, row, notWords, Reply, refused, done, reply, after}
 use Rattle.parameters.specs.declared.ParameterSet.{ParameterSet}
 use Rattle.parameters.specs.ParameterSet.{setRows}
-use Rattle.merkle.specs.Levels.{Shape, build, size, root}
+use Rattle.merkle.specs.Levels.{build, root}
 use Rattle.merkle.specs.Storeless.{storelessRoot}
 use Rattle.merkle.specs.Openings.{opening, accepts}
-use Rattle.trees.specs.Shapes.{shape}
-use Rattle.trees.specs.declared.Dimensions.{Dimensions}
+use Rattle.trees.specs.SetTrees.{treeOf, leafCount, leafWords, storeWords, openingWords}
 use Rattle.tree_entries.specs.declared.verdict.Verdict.{Verdict}
 use Rattle.tree_entries.specs.declared.verdict.Verdict.the-variants.{Accepted, Rejected, Refused}
-
--- The tree of a set: arity k = t / l, its rows compressed under the set.
-abbrev pub treeOf : ℕ → ParameterSet → Shape
-treeOf p s = shape p (s .width) (s .«node_size») (s .«full_rounds» / 2) (s .«partial_rounds») (s .diagonal) (s .constants)
-
--- The set's numbers as the tree's work uses them.
-abbrev pub dimensionsOf : ParameterSet → Dimensions
-dimensionsOf s = record {
-  arity = s .width / s .«node_size»;
-  «node_size» = s .«node_size»;
-  height = s .height;
-  half = s .«full_rounds» / 2;
-  «partial_rounds» = s .«partial_rounds»;
-}
-
--- k^h leaves, and the words of the leaves, the store and an opening
-abbrev pub leafCount : ℕ → ParameterSet → ℕ
-leafCount p s = treeOf p s .arity ^ s .height
-
-abbrev pub leafWords : ℕ → ParameterSet → ℕ
-leafWords p s = leafCount p s * s .«node_size»
-
-abbrev pub storeWords : ℕ → ParameterSet → ℕ
-storeWords p s = size (treeOf p s) (s .height)
-
-abbrev pub openingWords : ℕ → ParameterSet → ℕ
-openingWords p s = s .height * ((treeOf p s .arity - 1) * s .«node_size»)
 
 -- "10 | another lent slice not of its exact length"
 abbrev pub has : List ℕ → ℕ → Bool

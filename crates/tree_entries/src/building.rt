@@ -1,15 +1,12 @@
 // Building and roots, under a set that is handed in.
 ghost use mathlib.Core.Path.{_≡_};
-ghost use Prim.Native.Nat.{_-_, _≤_};
-ghost use lib.ListN.{length, drop};
-ghost use Rattle.modular.specs.Arithmetic.{allWords};
 ghost use Rattle.modular.specs.Goldilocks.{p};
 ghost use Rattle.refusals.specs.Table.{firstRow};
 ghost use Rattle.state_entries.specs.Permutation.{outcomeReply};
 ghost use Rattle.tree_entries.specs.Trees.{buildRows, buildReply, built, rootRows, rootReply, rooted, storelessRows, storelessReply, storelessRooted};
-use crate::sizes;
 use parameters::ParameterSet;
 use state_entries::Outcome;
+use trees::sets;
 
 // The first row that turns back a set, leaves and a store to be written, or 0.
 fn row_of_build(set: ParameterSet, leaves: &[u64], store: &[u64]) -> u8
@@ -19,10 +16,10 @@ fn row_of_build(set: ParameterSet, leaves: &[u64], store: &[u64]) -> u8
     if row != 0 {
         return row;
     }
-    if leaves.len() != sizes::leaf_words(set) {
+    if leaves.len() != sets::leaf_words(set) {
         return 10;
     }
-    if store.len() != sizes::store_words(set) {
+    if store.len() != sets::store_words(set) {
         return 10;
     }
     if !parameters::all_words(leaves) {
@@ -40,20 +37,11 @@ pub fn build(set: ParameterSet, leaves: &[u64], store: &mut [u64]) -> Outcome
     if row != 0 {
         return Outcome::Refused(row);
     }
-    let d = sizes::dimensions(set);
+    let d = sets::dimensions(set);
     let diagonal = set.diagonal;
     let constants = set.constants;
     trees::build(d, &diagonal, &constants, leaves, store);
     Outcome::Done
-}
-
-// Whether the last words of a store are words.
-fn ends_in_words(store: &[u64], count: usize) -> bool
-    requires { ⌜ count ≤ length (now store) ⌝ }
-    ensures { λ r. ⌜ r ≡ allWords p (drop (length (now (store .entry)) - count) (now (store .entry))) ⌝ }
-{
-    let at = store.len() - count;
-    parameters::all_words(&store[at..])
 }
 
 // The first row that turns back a set, a store and a node to be written, or 0.
@@ -64,13 +52,13 @@ fn row_of_root(set: ParameterSet, store: &[u64], node: &[u64]) -> u8
     if row != 0 {
         return row;
     }
-    if store.len() != sizes::store_words(set) {
+    if store.len() != sets::store_words(set) {
         return 10;
     }
     if node.len() as u64 != set.node_size {
         return 10;
     }
-    if !ends_in_words(store, node.len()) {
+    if !trees::ends_in_words(store, node.len()) {
         return 12;
     }
     0
@@ -85,7 +73,7 @@ pub fn root(set: ParameterSet, store: &[u64], node: &mut [u64]) -> Outcome
     if row != 0 {
         return Outcome::Refused(row);
     }
-    let d = sizes::dimensions(set);
+    let d = sets::dimensions(set);
     trees::copy_root(d, store, node);
     Outcome::Done
 }
@@ -98,7 +86,7 @@ fn row_of_storeless(set: ParameterSet, leaves: &[u64], node: &[u64]) -> u8
     if row != 0 {
         return row;
     }
-    if leaves.len() != sizes::leaf_words(set) {
+    if leaves.len() != sets::leaf_words(set) {
         return 10;
     }
     if node.len() as u64 != set.node_size {
@@ -119,7 +107,7 @@ pub fn storeless_root(set: ParameterSet, leaves: &[u64], node: &mut [u64]) -> Ou
     if row != 0 {
         return Outcome::Refused(row);
     }
-    let d = sizes::dimensions(set);
+    let d = sets::dimensions(set);
     let diagonal = set.diagonal;
     let constants = set.constants;
     storeless::storeless_root(d, &diagonal, &constants, leaves, node);

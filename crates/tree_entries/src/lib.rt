@@ -1,7 +1,6 @@
 // The entries of trees: building and roots, openings and their verification.
 pub mod building;
 pub mod openings;
-pub mod sizes;
 pub mod verdict;
 
 pub use building::build;

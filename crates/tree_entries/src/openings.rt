@@ -5,10 +5,10 @@ ghost use Rattle.modular.specs.Goldilocks.{p};
 ghost use Rattle.refusals.specs.Table.{firstRow, notWords};
 ghost use Rattle.state_entries.specs.Permutation.{outcomeReply};
 ghost use Rattle.tree_entries.specs.Trees.{openRows, openReply, opened, verdictReply, verifyRows, verifyReply};
-use crate::sizes;
 use crate::verdict::Verdict;
 use parameters::ParameterSet;
 use state_entries::Outcome;
+use trees::sets;
 
 // The first row that turns back a set, a store, a place and siblings to be written, or 0.
 fn row_of_open(set: ParameterSet, store: &[u64], place: u64, siblings: &[u64]) -> u8
@@ -18,16 +18,16 @@ fn row_of_open(set: ParameterSet, store: &[u64], place: u64, siblings: &[u64]) -
     if row != 0 {
         return row;
     }
-    if store.len() != sizes::store_words(set) {
+    if store.len() != sets::store_words(set) {
         return 10;
     }
-    if siblings.len() != sizes::opening_words(set) {
+    if siblings.len() != sets::opening_words(set) {
         return 10;
     }
-    if sizes::places(set) as u64 <= place {
+    if sets::places(set) as u64 <= place {
         return 11;
     }
-    let d = sizes::dimensions(set);
+    let d = sets::dimensions(set);
     if !trees::opening_is_words(d, store, place as usize) {
         return 12;
     }
@@ -43,7 +43,7 @@ pub fn open(set: ParameterSet, store: &[u64], place: u64, siblings: &mut [u64]) 
     if row != 0 {
         return Outcome::Refused(row);
     }
-    let d = sizes::dimensions(set);
+    let d = sets::dimensions(set);
     trees::open(d, store, place as usize, siblings);
     Outcome::Done
 }
@@ -78,10 +78,10 @@ fn row_of_verify(set: ParameterSet, root: &[u64], place: u64, leaf: &[u64], sibl
     if leaf.len() as u64 != set.node_size {
         return 10;
     }
-    if siblings.len() != sizes::opening_words(set) {
+    if siblings.len() != sets::opening_words(set) {
         return 10;
     }
-    if sizes::places(set) as u64 <= place {
+    if sets::places(set) as u64 <= place {
         return 11;
     }
     row_of_words(root, leaf, siblings)
@@ -101,7 +101,7 @@ pub fn verify(
     if row != 0 {
         return Verdict::Refused(row);
     }
-    let d = sizes::dimensions(set);
+    let d = sets::dimensions(set);
     let diagonal = set.diagonal;
     let constants = set.constants;
     if paths::accepts(

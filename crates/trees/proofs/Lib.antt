@@ -1,7 +1,8 @@
 -- The shape of a validated set, and the laws that the functions' proofs cite.
 pub mod Shapes
+pub mod SetTrees
 pub mod Lists
-mod Counts
+pub mod Counts
 mod Rows
 mod Filling
 mod Ascent

@@ -1,2 +1,3 @@
 -- The tree of a parameter set.
 pub mod Shapes
+pub mod SetTrees

@@ -3,10 +3,12 @@ pub mod building;
 pub mod nodes;
 pub mod openings;
 pub mod replacement;
+pub mod sets;
 pub mod sizes;
 
 pub use building::build;
 pub use building::copy_root;
+pub use building::ends_in_words;
 pub use openings::open;
 pub use openings::opening_is_words;
 pub use replacement::replace;

@@ -6,7 +6,7 @@ ghost use lib.ListN.{length};
 ghost use Rattle.modular.specs.Arithmetic.{allWords};
 ghost use Rattle.modular.specs.Goldilocks.{p};
 ghost use Rattle.merkle.specs.Levels.{size, row};
-ghost use Rattle.merkle.specs.Lists.{put};
+ghost use Rattle.merkle.specs.Lists.{part, put};
 ghost use Rattle.merkle.specs.Openings.{without, opening};
 ghost use Rattle.trees.specs.Shapes.{tree, ValidNumbers};
 use crate::Dimensions;
@@ -89,4 +89,14 @@ pub fn opening_is_words(d: Dimensions, store: &[u64], place: usize) -> bool
         level += 1;
     }
     true
+}
+
+// `size` words from the level's place on.
+pub fn cut<'a>(siblings: &'a [u64], size: usize, level: usize) -> &'a [u64]
+    requires { ⌜ level * size + size ≤ length (now siblings) ⌝ }
+    ensures { λ r. ⌜ now r ≡ part (level * size) size (now (siblings .entry)) ⌝ }
+{
+    let from = level * size;
+    let to = from + size;
+    &siblings[from..to]
 }

@@ -1,7 +1,7 @@
 // How many nodes and words a tree has.
 ghost use mathlib.Core.Path.{_≡_};
 ghost use mathlib.Core.List.{List};
-ghost use Prim.Native.Nat.{ℕ, _^_, _≤_};
+ghost use Prim.Native.Nat.{ℕ, _*_, _-_, _^_, _≤_};
 ghost use Rattle.merkle.specs.Levels.{size};
 ghost use Rattle.merkle.specs.Numbering.{inner};
 ghost use Rattle.trees.specs.Shapes.{tree, ValidNumbers};
@@ -36,4 +36,20 @@ pub fn store_size(d: Dimensions) -> usize
     ensures { λ r. ⌜ ((D C : List ℕ) → r ≡ size (tree d D C) (d .height)) ⌝ }
 {
     (leaf_count(d.arity, d.height) + inner_count(d)) * d.node_size
+}
+
+// A level's siblings: one node fewer than a row.
+pub fn part_size(arity: usize, node_size: usize) -> usize
+    requires { ⌜ (1 ≤ arity) × (arity ≤ 12) × («node_size» ≤ 12) ⌝ }
+    ensures { λ r. ⌜ r ≡ (arity - 1) * «node_size» ⌝ }
+{
+    (arity - 1) * node_size
+}
+
+// The words of an opening.
+pub fn opening_size(arity: usize, node_size: usize, height: usize) -> usize
+    requires { ⌜ (1 ≤ arity) × (arity ≤ 12) × («node_size» ≤ 12) × (height ≤ 32) ⌝ }
+    ensures { λ r. ⌜ r ≡ height * ((arity - 1) * «node_size») ⌝ }
+{
+    height * ((arity - 1) * node_size)
 }

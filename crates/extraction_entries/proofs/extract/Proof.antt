@@ -5,7 +5,7 @@ use borrow.Author.Needs.{needs}
 use Rattle.modular.specs.Goldilocks.{p}
 use Rattle.refusals.specs.Table.{done}
 use Rattle.refusals.proofs.Table.{refused-equations, done-equations}
-use Rattle.tree_entries.proofs.AcceptedTrees as trees
+use Rattle.trees.proofs.SetTrees as tree-of
 use Rattle.extraction_entries.specs.Extraction.{extractionReply, extractRows, extractReply, extractedFirst, extractedSecond}
 use Rattle.extraction_entries.proofs.AcceptedPairs.{extract-numbered}
 use Rattle.extraction_entries.proofs.Extracted.{paired, level-below, level-is, first-is, second-is}
@@ -36,7 +36,7 @@ lowest-level-requires c κs =
     let d = c .before .before .before .before in
     let r = d .before in
     let A = paired _ _ _ _ (sym (r .before .row-of-extract .ensures) ∙ r .if1 .left) in
-    rw (d .dimensions .ensures) (trees.valid-set _ (A .set), A .opening .leaf-long, A .opening .siblings-long, A .other .leaf-long, A .other .siblings-long)
+    rw (d .dimensions .ensures) (tree-of.valid-set _ (A .set), A .opening .leaf-long, A .opening .siblings-long, A .other .leaf-long, A .other .siblings-long)
 
 copy-row-requires : tie.Need-copy-row-requires
 copy-row-requires c κs =
@@ -46,7 +46,7 @@ copy-row-requires c κs =
     let z = sym (r .before .row-of-extract .ensures) ∙ r .if1 .left in
     let A = paired _ _ _ _ z in
     let e = rw (d .dimensions .ensures) at (j .lowest-level .ensures) in
-    rw (d .dimensions .ensures) (trees.valid-set _ (A .set), A .opening .leaf-long, level-below _ _ _ _ z _ e, A .opening .siblings-long, A .first-long ∙ sym (trees.width-is _ (A .set)))
+    rw (d .dimensions .ensures) (tree-of.valid-set _ (A .set), A .opening .leaf-long, level-below _ _ _ _ z _ e, A .opening .siblings-long, A .first-long ∙ sym (tree-of.width-is _ (A .set)))
 
 copy-row-requires-2 : tie.Need-copy-row-requires-2
 copy-row-requires-2 c κs =
@@ -56,7 +56,7 @@ copy-row-requires-2 c κs =
     let z = sym (r .before .row-of-extract .ensures) ∙ r .if1 .left in
     let A = paired _ _ _ _ z in
     let e = rw (d .dimensions .ensures) at (j .lowest-level .ensures) in
-    rw (d .dimensions .ensures) (trees.valid-set _ (A .set), A .other .leaf-long, level-below _ _ _ _ z _ e, A .other .siblings-long, A .second-long ∙ sym (trees.width-is _ (A .set)))
+    rw (d .dimensions .ensures) (tree-of.valid-set _ (A .set), A .other .leaf-long, level-below _ _ _ _ z _ e, A .other .siblings-long, A .second-long ∙ sym (tree-of.width-is _ (A .set)))
 
 same-length-3 : tie.Need-same-length-3
 same-length-3 c = search needs

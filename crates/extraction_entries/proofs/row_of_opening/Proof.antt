@@ -16,19 +16,19 @@ enum-known-number : tie.Need-enum-known-number
 enum-known-number c = search needs
 
 returns : tie.Need-returns
-returns c =
+returns c none =
     let v = c .before .before in
-    row-of-accepted _ _ _ _ _ (v .before .before .before .before .pre) _ (v .verify .ensures) (c .enum-told .given .1)
+    row-of-accepted _ _ _ _ _ none _ (v .verify .ensures) (c .enum-told .given .1)
 
 returns-2 : tie.Need-returns-2
-returns-2 c =
+returns-2 c none =
     let v = c .before .before in
-    row-of-rejected _ _ _ _ _ (v .before .before .before .before .pre) _ (v .verify .ensures) (c .enum-told2 .given .1)
+    row-of-rejected _ _ _ _ _ none _ (v .verify .ensures) (c .enum-told2 .given .1)
 
 returns-3 : tie.Need-returns-3
-returns-3 c =
+returns-3 c none =
     let v = c .before .before .before in
-    row-of-refused _ _ _ _ _ (v .before .before .before .before .pre) _ (v .verify .ensures) _ (c .before .number .given .1)
+    row-of-refused _ _ _ _ _ none _ (v .verify .ensures) _ (c .before .number .given .1)
 
 pub row-of-opening-spec : {M : Type 1} → statement M
 row-of-opening-spec =

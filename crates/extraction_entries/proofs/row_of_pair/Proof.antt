@@ -19,24 +19,31 @@ returns c =
     let e = c .before .row-of .ensures in
     e ∙ sym (first-front _ _ (λ z. c .if1 .taken (e ∙ z)))
 
+opening-words-requires : tie.Need-opening-words-requires
+opening-words-requires c κs = sym (c .before .row-of .ensures) ∙ c .if1 .left
+
 pair-fits-requires : tie.Need-pair-fits-requires
 pair-fits-requires c κs = search needs
 
 returns-2 : tie.Need-returns-2
 unfolding pairRows
 returns-2 c =
-    let r = c .before .before in
-    sym (at-10 p _ (set-numbered p _) _ _ _ (sym (r .before .row-of .ensures) ∙ r .if1 .left) (ap not (sym (c .before .pair-fits .ensures _)) ∙ c .if2 .taken))
+    let b = c .before .before in
+    let r = b .before in
+    sym (at-10 p _ (set-numbered p _) _ _ _ (sym (r .before .row-of .ensures) ∙ r .if1 .left) (ap not (sym (c .before .pair-fits .ensures _ (b .opening-words .ensures))) ∙ c .if2 .taken))
 
 places-requires : tie.Need-places-requires
-places-requires c κs = search needs
+places-requires c κs =
+    let r = c .before .before .before in
+    sym (r .before .row-of .ensures) ∙ r .if1 .left
 
 returns-3 : tie.Need-returns-3
 unfolding pairRows
 returns-3 c =
     let f = c .before .before in
-    let r = f .before .before in
-    sym (at-11 p _ (set-numbered p _) _ _ _ (sym (r .before .row-of .ensures) ∙ r .if1 .left) (ap not (sym (f .before .pair-fits .ensures _)) ∙ f .if2 .left) (ap not (le-ltb _ _ (rw (c .before .places .ensures) at (c .if3 .taken)))))
+    let b = f .before .before in
+    let r = b .before in
+    sym (at-11 p _ (set-numbered p _) _ _ _ (sym (r .before .row-of .ensures) ∙ r .if1 .left) (ap not (sym (f .before .pair-fits .ensures _ (b .opening-words .ensures))) ∙ f .if2 .left) (ap not (le-ltb _ _ (rw (c .before .places .ensures) at (c .if3 .taken)))))
 
 pair-is-words-requires : tie.Need-pair-is-words-requires
 pair-is-words-requires c κs = search needs
@@ -46,8 +53,9 @@ unfolding pairRows
 returns-4 c =
     let q = c .before .before in
     let f = q .before .before in
-    let r = f .before .before in
-    sym (at-words p _ (set-numbered p _) _ _ _ (sym (r .before .row-of .ensures) ∙ r .if1 .left) (ap not (sym (f .before .pair-fits .ensures _)) ∙ f .if2 .left) (ap not (lt-ltb _ _ (rw (q .before .places .ensures) at (q .if3 .left))))
+    let b = f .before .before in
+    let r = b .before in
+    sym (at-words p _ (set-numbered p _) _ _ _ (sym (r .before .row-of .ensures) ∙ r .if1 .left) (ap not (sym (f .before .pair-fits .ensures _ (b .opening-words .ensures))) ∙ f .if2 .left) (ap not (lt-ltb _ _ (rw (q .before .places .ensures) at (q .if3 .left))))
     ∙ twelve p _ (sym (c .before .pair-is-words .ensures) ∙ not-true _ (c .if4 .taken)))
 
 returns-5 : tie.Need-returns-5
@@ -55,8 +63,9 @@ unfolding pairRows
 returns-5 c =
     let q = c .before .before in
     let f = q .before .before in
-    let r = f .before .before in
-    sym (at-words p _ (set-numbered p _) _ _ _ (sym (r .before .row-of .ensures) ∙ r .if1 .left) (ap not (sym (f .before .pair-fits .ensures _)) ∙ f .if2 .left) (ap not (lt-ltb _ _ (rw (q .before .places .ensures) at (q .if3 .left))))
+    let b = f .before .before in
+    let r = b .before in
+    sym (at-words p _ (set-numbered p _) _ _ _ (sym (r .before .row-of .ensures) ∙ r .if1 .left) (ap not (sym (f .before .pair-fits .ensures _ (b .opening-words .ensures))) ∙ f .if2 .left) (ap not (lt-ltb _ _ (rw (q .before .places .ensures) at (q .if3 .left))))
     ∙ no-twelve p _ (sym (c .before .pair-is-words .ensures) ∙ not-false _ (c .if4 .left)))
 
 pub row-of-pair-spec : {M : Type 1} → statement M
@@ -65,6 +74,7 @@ row-of-pair-spec =
     (tie.spec
     row-of-requires
     returns
+    opening-words-requires
     pair-fits-requires
     returns-2
     places-requires

@@ -1,13 +1,19 @@
-use lib.Seq.{length-take-le}
-use mathlib.Core.Path.{_≡_, sym, _∙_}
+use mathlib.Core.Path.{_≡_, sym, ap, _∙_}
+use mathlib.Core.List.{List}
+use Prim.Native.Nat.{ℕ}
 use native.Mathlib.Omega.{arith}
 use borrow.Author.Needs.{needs}
+use Rattle.modular.specs.Goldilocks.{p}
+use Rattle.refusals.specs.Table.{firstRow}
 use Rattle.refusals.proofs.Table.{first-front, first-back}
-use Rattle.parameters.specs.Rows.{constantCount}
+use Rattle.parameters.specs.Rows.{constantCount, listRows}
 use Rattle.parameters.specs.ParameterSet.{heldRows}
 use Rattle.parameters.proofs.Accepted.{numbers-of, numbers-numbered, width-fits, count-fits}
 use Rattle.parameters.proofs.row_of_set.Statement.{statement}
 use Rattle.parameters.proofs.row_of_set.Tie as tie
+
+same-lists : {D E C F : List ℕ} → D ≡ E → C ≡ F → firstRow (listRows p D C) ≡ firstRow (listRows p E F)
+same-lists e f = cc
 
 row-of-numbers-requires : tie.Need-row-of-numbers-requires
 row-of-numbers-requires c κs = search needs
@@ -26,18 +32,18 @@ add-count : tie.Need-add-count
 unfolding constantCount
 add-count c = omega (arith, count-fits _ _ _ _ _ (numbers-of _ _ _ _ _ (sym (c .before .row-of-numbers .ensures) ∙ c .if1 .left)))
 
-slice-aggregate-row-of-lists : tie.Need-slice-aggregate-row-of-lists
-slice-aggregate-row-of-lists c =
+first-requires : tie.Need-first-requires
+first-requires c κs =
     let n = c .before in
     let N = numbers-of _ _ _ _ _ (sym (n .before .row-of-numbers .ensures) ∙ n .if1 .left) in
-    sym (length-take-le _ _ (omega (arith, width-fits _ (N .width))))
+    omega (arith, width-fits _ (N .width))
 
-slice-aggregate-row-of-lists-2 : tie.Need-slice-aggregate-row-of-lists-2
+first-requires-2 : tie.Need-first-requires-2
 unfolding constantCount
-slice-aggregate-row-of-lists-2 c =
-    let n = c .before .before in
+first-requires-2 c κs =
+    let n = c .before .before .before in
     let N = numbers-of _ _ _ _ _ (sym (n .before .row-of-numbers .ensures) ∙ n .if1 .left) in
-    sym (length-take-le _ _ (omega (arith, count-fits _ _ _ _ _ N)))
+    omega (arith, count-fits _ _ _ _ _ N)
 
 row-of-lists-requires : tie.Need-row-of-lists-requires
 row-of-lists-requires c κs = search needs
@@ -45,8 +51,12 @@ row-of-lists-requires c κs = search needs
 returns-2 : tie.Need-returns-2
 unfolding heldRows constantCount
 returns-2 c =
-    let n = c .before .before .before in
-    c .row-of-lists .ensures ∙ sym (first-back _ _ (numbers-numbered _ _ _ _ _) (sym (n .before .row-of-numbers .ensures) ∙ n .if1 .left))
+    let g = c .before in
+    let f = g .before .before in
+    let n = f .before .before in
+    c .row-of-lists .ensures
+    ∙ same-lists (f .first .ensures) (g .first2 .ensures)
+    ∙ sym (first-back _ _ (numbers-numbered _ _ _ _ _) (sym (n .before .row-of-numbers .ensures) ∙ n .if1 .left))
 
 pub row-of-set-spec : {M : Type 1} → statement M
 row-of-set-spec =
@@ -56,7 +66,7 @@ row-of-set-spec =
     returns
     mul-count
     add-count
-    slice-aggregate-row-of-lists
-    slice-aggregate-row-of-lists-2
+    first-requires
+    first-requires-2
     row-of-lists-requires
     returns-2)

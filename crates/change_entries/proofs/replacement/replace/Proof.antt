@@ -5,7 +5,7 @@ use borrow.Author.Needs.{needs}
 use Rattle.modular.specs.Goldilocks.{p}
 use Rattle.refusals.specs.Table.{done}
 use Rattle.refusals.proofs.Table.{refused-equations, done-equations}
-use Rattle.tree_entries.proofs.AcceptedTrees as trees
+use Rattle.trees.proofs.SetTrees as tree-of
 use Rattle.change_entries.specs.Replacement.{changedReply, replaceRows, replaceReply, replaced}
 use Rattle.change_entries.proofs.AcceptedChanges.{Replaced, replace-passed, replace-numbered}
 use Rattle.change_entries.proofs.replacement.replace.Statement.{statement}
@@ -31,7 +31,7 @@ replace-requires : tie.Need-replace-requires
 replace-requires c κs =
     let d = c .before .before .before .before .before in
     let A = passed (d .before) in
-    rw (d .dimensions .ensures) (trees.valid-set _ (A .set), A .store-long, A .place, A .leaf-long)
+    rw (d .dimensions .ensures) (tree-of.valid-set _ (A .set), A .store-long, A .place, A .leaf-long)
 
 same-length-2 : tie.Need-same-length-2
 same-length-2 c = search needs

@@ -15,8 +15,8 @@ use Rattle.parameters.proofs.Accepted.{set-numbered}
 use Rattle.merkle.specs.Openings.{opening}
 use Rattle.trees.specs.Shapes.{tree}
 use Rattle.trees.specs.declared.Dimensions.{Dimensions}
-use Rattle.tree_entries.proofs.AcceptedTrees.{same-size, valid-numbers}
-use Rattle.tree_entries.specs.Trees.{dimensionsOf, treeOf}
+use Rattle.trees.proofs.SetTrees.{same-size, valid-numbers}
+use Rattle.trees.specs.SetTrees.{dimensionsOf, treeOf}
 use Rattle.change_entries.specs.Replacement.{replaceRows}
 use Rattle.change_entries.proofs.replacement.row_of_replace.Statement.{statement}
 use Rattle.change_entries.proofs.replacement.row_of_replace.Tie as tie

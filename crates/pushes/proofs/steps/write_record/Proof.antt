@@ -2,7 +2,7 @@ use mathlib.Core.Path.{sym}
 use native.Mathlib.Omega.{arith}
 use lib.Seq.{length-take-le}
 use borrow.Author.Needs.{needs}
-use Rattle.tree_entries.proofs.AcceptedTrees as trees
+use Rattle.trees.proofs.SetTrees as tree-of
 use Rattle.pushes.proofs.Records.{leaf-in-record}
 use Rattle.pushes.proofs.steps.write_record.Statement.{statement}
 use Rattle.pushes.proofs.steps.write_record.Tie as tie
@@ -25,7 +25,7 @@ replace-from-requires c κs =
     let d = c .before .before .before .before .before .before in
     let i = d .before .before in
     rw (d .dimensions .ensures)
-    (trees.valid-set _ (i .pre .0), i .pre .1, i .pre .2, length-take-le _ _ (omega (arith, leaf-in-record _ (i .pre .0))), omega (arith, i .pre .3, trees.valid-numbers _ (i .pre .0) .low))
+    (tree-of.valid-set _ (i .pre .0), i .pre .1, i .pre .2, length-take-le _ _ (omega (arith, leaf-in-record _ (i .pre .0))), omega (arith, i .pre .3, tree-of.valid-numbers _ (i .pre .0) .low))
 
 same-length : tie.Need-same-length
 same-length c = search needs

@@ -24,12 +24,12 @@ returns c = refused-equations (copyRows p _ _ _ _) [] _ _ _ (c .before .row-of-c
 passes : (c : tie.Else1) → Passed (c .before .before .before .before .before .args .set) (c .before .before .before .before .before .args .siblings .now) (c .before .before .before .before .before .args .level) (c .before .before .before .before .before .args .buffer .now)
 passes c = passed-rows _ _ _ _ (sym (c .before .row-of-copy .ensures) ∙ c .if1 .left)
 
-words-at-requires : tie.Need-words-at-requires
-words-at-requires c κs = (passes c .set, passes c .long, passes c .level)
+level-words-requires : tie.Need-level-words-requires
+level-words-requires c κs = (passes c .set, passes c .long, passes c .level)
 
 -- the words handed back are as many as the buffer holds
-words-long : (c : tie.After-words-at) → length (c .words-at .result .now) ≡ length (c .before .before .before .before .before .before .args .buffer .now)
-words-long c = ap length (c .words-at .ensures) ∙ part-long _ _ _ _ (passes (c .before))
+words-long : (c : tie.After-level-words) → length (c .level-words .result .now) ≡ length (c .before .before .before .before .before .before .args .buffer .now)
+words-long c = ap length (c .level-words .ensures) ∙ part-long _ _ _ _ (passes (c .before))
 
 copy-words-requires : tie.Need-copy-words-requires
 copy-words-requires c κs = (omega arith, omega (arith, words-long (c .before)))
@@ -43,7 +43,7 @@ returns-2 c =
     let w = c .before .before in
     let x = w .before .before in
     let e = done-equations (copyRows p _ _ _ _) [] _ _ (numbered _ _ _ _) (sym (x .before .before .row-of-copy .ensures) ∙ x .before .if1 .left) in
-    (e .0, w .copy-words .ensures ∙ whole-copy _ _ (words-long x) ∙ x .words-at .ensures ∙ e .1)
+    (e .0, w .copy-words .ensures ∙ whole-copy _ _ (words-long x) ∙ x .level-words .ensures ∙ e .1)
 
 pub copy-level-spec : {M : Type 1} → statement M
 copy-level-spec =
@@ -52,7 +52,7 @@ copy-level-spec =
     row-of-copy-requires
     same-length
     returns
-    words-at-requires
+    level-words-requires
     copy-words-requires
     same-length-2
     returns-2)

@@ -50,8 +50,8 @@ returns-4 c =
     let r = n .before .before in
     sym (at-11 p _ (set-numbered p _) _ _ _ (sym (r .before .row-of .ensures) ∙ r .if1 .left) (both-good _ _ (eq-eqb _ _ (n .if2 .left ∙ n .before .opening-words .ensures)) (eq-eqb _ _ (m .if3 .left ∙ m .before .part-words .ensures))) (ap not (le-ltb _ _ (c .if4 .taken))))
 
-words-at-requires : tie.Need-words-at-requires
-words-at-requires c κs =
+level-words-requires : tie.Need-level-words-requires
+level-words-requires c κs =
     let m = c .before .before in
     let n = m .before .before in
     let r = n .before .before in
@@ -70,7 +70,7 @@ returns-5 c =
     let n = m .before .before in
     let r = n .before .before in
     sym (at-words p _ (set-numbered p _) _ _ _ (sym (r .before .row-of .ensures) ∙ r .if1 .left) (both-good _ _ (eq-eqb _ _ (n .if2 .left ∙ n .before .opening-words .ensures)) (eq-eqb _ _ (m .if3 .left ∙ m .before .part-words .ensures))) (ap not (lt-ltb _ _ (l .if4 .left)))
-    ∙ twelve p _ (sym (c .before .all-words .ensures ∙ ap (allWords p) (w .words-at .ensures)) ∙ not-true _ (c .if5 .taken)))
+    ∙ twelve p _ (sym (c .before .all-words .ensures ∙ ap (allWords p) (w .level-words .ensures)) ∙ not-true _ (c .if5 .taken)))
 
 returns-6 : tie.Need-returns-6
 unfolding copyRows
@@ -81,7 +81,7 @@ returns-6 c =
     let n = m .before .before in
     let r = n .before .before in
     sym (at-words p _ (set-numbered p _) _ _ _ (sym (r .before .row-of .ensures) ∙ r .if1 .left) (both-good _ _ (eq-eqb _ _ (n .if2 .left ∙ n .before .opening-words .ensures)) (eq-eqb _ _ (m .if3 .left ∙ m .before .part-words .ensures))) (ap not (lt-ltb _ _ (l .if4 .left)))
-    ∙ no-twelve p _ (sym (c .before .all-words .ensures ∙ ap (allWords p) (w .words-at .ensures)) ∙ not-false _ (c .if5 .left)))
+    ∙ no-twelve p _ (sym (c .before .all-words .ensures ∙ ap (allWords p) (w .level-words .ensures)) ∙ not-false _ (c .if5 .left)))
 
 pub row-of-copy-spec : {M : Type 1} → statement M
 row-of-copy-spec =
@@ -94,7 +94,7 @@ row-of-copy-spec =
     part-words-requires
     returns-3
     returns-4
-    words-at-requires
+    level-words-requires
     all-words-requires
     returns-5
     returns-6)

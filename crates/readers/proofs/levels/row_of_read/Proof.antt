@@ -36,8 +36,8 @@ returns-3 c =
     let r = n .before .before in
     sym (at-11 p _ (set-numbered p _) _ _ _ (sym (r .before .row-of .ensures) ∙ r .if1 .left) (ap not (eq-eqb _ _ (n .if2 .left ∙ n .before .opening-words .ensures))) (ap not (le-ltb _ _ (c .if3 .taken))))
 
-words-at-requires : tie.Need-words-at-requires
-words-at-requires c κs =
+level-words-requires : tie.Need-level-words-requires
+level-words-requires c κs =
     let n = c .before .before in
     let r = n .before .before in
     (sym (r .before .row-of .ensures) ∙ r .if1 .left, n .if2 .left ∙ n .before .opening-words .ensures, c .if3 .left)
@@ -54,7 +54,7 @@ returns-4 c =
     let n = l .before .before in
     let r = n .before .before in
     sym (at-words p _ (set-numbered p _) _ _ _ (sym (r .before .row-of .ensures) ∙ r .if1 .left) (ap not (eq-eqb _ _ (n .if2 .left ∙ n .before .opening-words .ensures))) (ap not (lt-ltb _ _ (l .if3 .left)))
-    ∙ twelve p _ (sym (c .before .all-words .ensures ∙ ap (allWords p) (w .words-at .ensures)) ∙ not-true _ (c .if4 .taken)))
+    ∙ twelve p _ (sym (c .before .all-words .ensures ∙ ap (allWords p) (w .level-words .ensures)) ∙ not-true _ (c .if4 .taken)))
 
 returns-5 : tie.Need-returns-5
 unfolding readRows
@@ -64,7 +64,7 @@ returns-5 c =
     let n = l .before .before in
     let r = n .before .before in
     sym (at-words p _ (set-numbered p _) _ _ _ (sym (r .before .row-of .ensures) ∙ r .if1 .left) (ap not (eq-eqb _ _ (n .if2 .left ∙ n .before .opening-words .ensures))) (ap not (lt-ltb _ _ (l .if3 .left)))
-    ∙ no-twelve p _ (sym (c .before .all-words .ensures ∙ ap (allWords p) (w .words-at .ensures)) ∙ not-false _ (c .if4 .left)))
+    ∙ no-twelve p _ (sym (c .before .all-words .ensures ∙ ap (allWords p) (w .level-words .ensures)) ∙ not-false _ (c .if4 .left)))
 
 pub row-of-read-spec : {M : Type 1} → statement M
 row-of-read-spec =
@@ -75,7 +75,7 @@ row-of-read-spec =
     opening-words-requires
     returns-2
     returns-3
-    words-at-requires
+    level-words-requires
     all-words-requires
     returns-4
     returns-5)

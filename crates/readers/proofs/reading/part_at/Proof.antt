@@ -180,17 +180,17 @@ module _ {M : Type 1} (𝓤 : URA M) (H : Heap 𝓤) (A : Atoms 𝓤) (W : Given
       qed W ((‵ (flft κ q) ⊛ ‵ ftrue) ∷ ‵ Siblings ∷ []) ∵ nothing ! $ owned ! u64 (Is u64) (uint-makes 𝓤 H A W w64) j _ (refl, j-fits) $ fjoin ! $ move ! (2 ∷ 0 ∷ []) $ fjoin ! $
       owned ! sets.the-row (Is sets.the-row) (LL.makes sets.the-type sets′.the-plain 𝓤 H A) s _ is-s $ fjoin ! $ move ! (1 ∷ 0 ∷ []) $ join ! $ frame ! $ done !
 
-  goes-words : (n : ℕ) → n < 256 → RowIs n → ent 𝓤 (⋆ 𝓤 H A ((‵ (flft κ q) ⊛ ‵ ftrue) ∷ ‵ Siblings ∷ [])) (Words 𝓤 H A mem run .pre (to-words n))
-  goes-words n n-fits e =
-      qed W ((‵ (flft κ q) ⊛ ‵ ftrue) ∷ ‵ Siblings ∷ []) ∵ says ! e $ frame ! $
+  goes-words : (n : ℕ) → n < 256 → ent 𝓤 (⋆ 𝓤 H A ((‵ (flft κ q) ⊛ ‵ ftrue) ∷ ‵ Siblings ∷ [])) (Words 𝓤 H A mem run .pre (to-words n))
+  goes-words n n-fits =
+      qed W ((‵ (flft κ q) ⊛ ‵ ftrue) ∷ ‵ Siblings ∷ []) ∵
       nothing ! $ owned ! u8 (Is u8) (uint-makes 𝓤 H A W w8) n _ (refl, n-fits) $ fjoin ! $ owned ! u64 (Is u64) (uint-makes 𝓤 H A W w64) j _ (refl, j-fits) $ fjoin ! $
-      move ! (1 ∷ 0 ∷ []) $ fjoin ! $ owned ! sets.the-row (Is sets.the-row) (LL.makes sets.the-type sets′.the-plain 𝓤 H A) s _ is-s $ fjoin ! $ done !
+      move ! (2 ∷ 0 ∷ []) $ fjoin ! $ owned ! sets.the-row (Is sets.the-row) (LL.makes sets.the-type sets′.the-plain 𝓤 H A) s _ is-s $ fjoin ! $ move ! (1 ∷ 0 ∷ []) $ join ! $ frame ! $ done !
 
   row-said : (n : ℕ) → ent 𝓤 (ensured 𝓤 H A rows.ended (rows.clauses 𝓤 H A mem run) (κ, tt) row-args tt n) (fact 𝓤 (RowIs n))
   row-said n = exE 𝓤 _ (λ ends. snd∗ 𝓤 (sem 𝓤 H A (lasts rows.ended (κ, tt) row-args ends)) (fact 𝓤 (RowIs n)))
 
-  words-said : (n : ℕ) (r : RefT (List ℕ)) → ent 𝓤 (ensured 𝓤 H A words.ended (words.clauses 𝓤 H A mem run) (κ, tt) (words-args n) tt r) (fact 𝓤 (WordsAre r))
-  words-said n r = exE 𝓤 _ (λ ends. snd∗ 𝓤 (sem 𝓤 H A (lasts words.ended (κ, tt) (words-args n) ends)) (fact 𝓤 (WordsAre r)))
+  words-said : (n : ℕ) (r : RefT (List ℕ)) → ent 𝓤 (ensured 𝓤 H A words.ended (words.clauses 𝓤 H A mem run) (κ, tt) (words-args n) tt r) (fact 𝓤 (RowIs n → WordsAre r))
+  words-said n r = exE 𝓤 _ (λ ends. snd∗ 𝓤 (sem 𝓤 H A (lasts words.ended (κ, tt) (words-args n) ends)) (fact 𝓤 (RowIs n → WordsAre r)))
 
   abbrev made : RefT (List ℕ) → ℕ → Part
   made r n = record { words = r; row = n }
@@ -223,10 +223,10 @@ module _ {M : Type 1} (𝓤 : URA M) (H : Heap 𝓤) (A : Atoms 𝓤) (W : Given
         peeks ! u8 (Is u8) (shows 𝓤 H A u8) n (w ∷ []) (λ is-n.
         land ! (from ! (stop !)) (init ! 9 refl (uint-lawful 𝓤 H A W w8 .typed n _ is-n .0)) $ rewrite ! 9 (λ (u : Val). ‵ (fat fullShare (tyInt w8) l₄ 0 u)) (ap only (is-n .0)) refl $
         assigns ! (of-opd ! (load ! (from ! (fld ! refl (stop !))) (look-in ! 13 (sub ! 0 refl (whole !))))) (from ! (stop !)) (init ! 3 refl (tt, typed-d .1 .0)) $
-        move ! (1 ∷ 2 ∷ []) $ use2 W (raw (Words 𝓤 H A mem run .pre (to-words n))) (goes-words n (is-n .1) e) $
+        move ! (1 ∷ 2 ∷ []) $ use2 W (raw (Words 𝓤 H A mem run .pre (to-words n))) (goes-words n (is-n .1)) $
         calls-at ! fm (Words 𝓤 H A mem run) known-words (to-words n) (and-then ! (load ! (from ! (stop !)) (look ! 14 refl)) (and-then ! (load ! (from ! (stop !)) (look ! 2 refl)) (and-then ! (load ! (from ! (stop !)) (look ! 10 refl)) (and-then ! (load ! (from ! (stop !)) (look ! 8 refl)) (no-more !))))) (λ w′.
         use1 W (later (some (λ (r : RefT (List ℕ)). ((‵ (flft κ q) ⊛ ‵ ftrue) ⊛ ‵ (ShrSlice (named 0) κ u64 .own r (w′ ∷ []))) ⊛ raw (ensured 𝓤 H A words.ended (words.clauses 𝓤 H A mem run) (κ, tt) (words-args n) tt r)))) (id⊢ 𝓤 _) $ await ! tt $ pick ! (λ r.
-        split ! $ move ! (1 ∷ []) $ use1 W (raw (fact 𝓤 (WordsAre r))) (words-said n r) $ heard ! (WordsAre r) (λ f. split ! $ move ! (1 ∷ []) $
+        split ! $ move ! (1 ∷ []) $ use1 W (raw (fact 𝓤 (RowIs n → WordsAre r))) (words-said n r) $ heard ! (RowIs n → WordsAre r) (λ f. split ! $ move ! (1 ∷ []) $
         -- [the words; the token; the row; local 7; …]
         peeks ! (ShrSlice (named 0) κ u64) (Is (ShrSlice (named 0) κ u64)) (shows 𝓤 H A (ShrSlice (named 0) κ u64)) r (w′ ∷ []) (λ is-r.
         land ! (from ! (stop !)) (init ! 7 refl (shr-slice-lawful 𝓤 H A W erased κ u64 .typed r _ is-r .0)) $ rewrite ! 7 (λ (u : Val). ‵ (fat fullShare lentTy l₅ 0 u)) (ap only (shr-slice-tells (named 0) κ u64 r _ is-r)) refl $
@@ -234,7 +234,7 @@ module _ {M : Type 1} (𝓤 : URA M) (H : Heap 𝓤) (A : Atoms 𝓤) (W : Given
         assigns ! (agg ! (and-then ! (load ! (from ! (stop !)) (look ! 7 refl)) (and-then ! (load ! (from ! (stop !)) (look ! 9 refl)) (no-more !)))) (from ! (stop !)) (init ! 17 refl (tt, ((tt, (record { fits = is-r .0 .1 .0 }, tt)), (record { fits = is-n .1 }, tt)))) $
         returns ! (look ! 17 refl) $ forget ! 3 refl $ forget ! 5 refl $ forget ! 7 refl $ forget ! 9 refl $ forget ! 11 refl $ forget ! 13 refl $ forget ! 15 refl $ forget ! 17 refl $
         move ! (17 ∷ 18 ∷ []) $ free1 ! $ move ! (15 ∷ 16 ∷ []) $ free1 ! $ move ! (13 ∷ 14 ∷ []) $ free1 ! $ move ! (11 ∷ 12 ∷ []) $ free1 ! $ move ! (9 ∷ 10 ∷ []) $ free1 ! $ move ! (7 ∷ 8 ∷ []) $ free1 ! $ move ! (5 ∷ 6 ∷ []) $ free1 ! $ move ! (3 ∷ 4 ∷ []) $ free1 ! $ free0 ! $
-        keep ! (1 ∷ 0 ∷ []) $ by ! (exits r n (is-n .1) e f))))))))))))))))))
+        keep ! (1 ∷ 0 ∷ []) $ by ! (exits r n (is-n .1) e (f e)))))))))))))))))))
 
 module _ {M : Type 1} (𝓤 : URA M) (H : Heap 𝓤) (A : Atoms 𝓤) (W : Given 𝓤 H A) (mem : Memory → SProp 𝓤) (run : Routine → Fun 𝓤) where
   all-walks : (C : Calls 𝓤 H) (Λ : Loops 𝓤 H) → FmC 𝓤 H (W .laws) C → Triple 𝓤 (C #rows) (Row 𝓤 H A mem run) → Triple 𝓤 (C #words) (Words 𝓤 H A mem run)

@@ -3,12 +3,6 @@ use Rattle.parameters.specs.ParameterSet.{setRows}
 use Rattle.state_entries.proofs.sets.row_of.Statement.{statement}
 use Rattle.state_entries.proofs.sets.row_of.Tie as tie
 
-slice-aggregate-row-of-set : tie.Need-slice-aggregate-row-of-set
-slice-aggregate-row-of-set c = search needs
-
-slice-aggregate-row-of-set-2 : tie.Need-slice-aggregate-row-of-set-2
-slice-aggregate-row-of-set-2 c = search needs
-
 row-of-set-requires : tie.Need-row-of-set-requires
 row-of-set-requires c κs = search needs
 
@@ -17,6 +11,4 @@ unfolding setRows
 returns c = c .row-of-set .ensures
 
 pub row-of-spec : {M : Type 1} → statement M
-row-of-spec =
-    tie.close
-    (tie.spec slice-aggregate-row-of-set slice-aggregate-row-of-set-2 row-of-set-requires returns)
+row-of-spec = tie.close (tie.spec row-of-set-requires returns)

@@ -8,7 +8,7 @@ use Rattle.modular.proofs.Goldilocks.{goldilocks}
 use Rattle.poseidon2.proofs.Rounds.{claims}
 use Rattle.refusals.proofs.Table.{refused-equations, done-equations}
 use Rattle.state_entries.specs.Permutation.{outcomeReply, stateRows, stateReply, unpermuteUnder, unpermuted}
-use Rattle.state_entries.proofs.AcceptedSets.{state-of, used-at}
+use Rattle.parameters.proofs.AcceptedSets.{state-of, used-at}
 use Rattle.state_entries.proofs.AcceptedStates.{accepted, state-numbered}
 use Rattle.state_entries.proofs.states.unpermute.Statement.{statement}
 use Rattle.state_entries.proofs.states.unpermute.Tie as tie

@@ -6,6 +6,7 @@ use Rattle.refusals.proofs.Table.{refused-equations, done-equations}
 use lib.ListN.{length}
 use Rattle.state_entries.specs.Permutation.{outcomeReply}
 use Rattle.tree_entries.specs.Trees.{buildRows, buildReply, built}
+use Rattle.trees.proofs.SetTrees as tree-of
 use Rattle.tree_entries.proofs.AcceptedTrees as trees
 use Rattle.tree_entries.proofs.building.build.Statement.{statement}
 use Rattle.tree_entries.proofs.building.build.Tie as tie
@@ -30,14 +31,14 @@ build-requires : tie.Need-build-requires
 build-requires c κs =
     let d = c .before .before .before .before .before in
     let A = passed (d .before) in
-    rw (d .dimensions .ensures) (trees.valid-set _ (A .set), A .leaves-long, A .store-long)
+    rw (d .dimensions .ensures) (tree-of.valid-set _ (A .set), A .leaves-long, A .store-long)
 
 same-length-2 : tie.Need-same-length-2
 same-length-2 c =
     let w = c .before .before in
     let d = w .before .before .before .before .before .before in
     let A = passed (d .before) in
-    ap length (rw (d .dimensions .ensures) at (w .build .ensures)) ∙ trees.laws _ (A .set) .building _ _ (A .leaves-long) .isStore .whole ∙ sym (A .store-long)
+    ap length (rw (d .dimensions .ensures) at (w .build .ensures)) ∙ tree-of.laws _ (A .set) .building _ _ (A .leaves-long) .isStore .whole ∙ sym (A .store-long)
 
 returns-2 : tie.Need-returns-2
 unfolding outcomeReply buildReply built

@@ -6,6 +6,7 @@ use Rattle.refusals.proofs.Table.{refused-equations, done-equations}
 use lib.ListN.{length}
 use Rattle.state_entries.specs.Permutation.{outcomeReply}
 use Rattle.tree_entries.specs.Trees.{rootRows, rootReply, rooted}
+use Rattle.trees.proofs.SetTrees as tree-of
 use Rattle.tree_entries.proofs.AcceptedTrees as trees
 use Rattle.tree_entries.proofs.building.root.Statement.{statement}
 use Rattle.tree_entries.proofs.building.root.Tie as tie
@@ -30,7 +31,7 @@ copy-root-requires : tie.Need-copy-root-requires
 copy-root-requires c κs =
     let d = c .before in
     let A = passed (d .before) in
-    rw (d .dimensions .ensures) (rw (A .store-long) (trees.node-in-store _ (A .set)), A .node-long)
+    rw (d .dimensions .ensures) (rw (A .store-long) (tree-of.node-in-store _ (A .set)), A .node-long)
 
 same-length-2 : tie.Need-same-length-2
 same-length-2 c =
@@ -38,7 +39,7 @@ same-length-2 c =
     let d = w .before .before in
     let A = passed (d .before) in
     let s = d .before .before .before .before .before .before .args .set in
-    ap length (rw (d .dimensions .ensures) at (w .copy-root .ensures (s .diagonal) (s .constants))) ∙ trees.root-long _ (A .set) _ (A .store-long) ∙ sym (A .node-long)
+    ap length (rw (d .dimensions .ensures) at (w .copy-root .ensures (s .diagonal) (s .constants))) ∙ tree-of.root-long _ (A .set) _ (A .store-long) ∙ sym (A .node-long)
 
 returns-2 : tie.Need-returns-2
 unfolding outcomeReply rootReply rooted

@@ -9,7 +9,7 @@ use lib.ListN.{length, drop}
 use Rattle.modular.specs.Arithmetic.{allWords}
 use Rattle.merkle.specs.Levels.{root}
 use Rattle.tree_entries.specs.Trees.{rootRows}
-use Rattle.tree_entries.proofs.AcceptedTrees as trees
+use Rattle.trees.proofs.SetTrees as tree-of
 use Rattle.refusals.proofs.LengthsAndWords.{at-10, at-12, at-none, first-bad, second-bad, both-good}
 use Rattle.tree_entries.proofs.building.row_of_root.Statement.{statement}
 use Rattle.tree_entries.proofs.building.row_of_root.Tie as tie
@@ -43,7 +43,7 @@ ends-in-words-requires : tie.Need-ends-in-words-requires
 ends-in-words-requires c κs =
     let n = c .before .before in
     let r = n .before .before in
-    rw (c .if3 .left, n .if2 .left, n .before .store-words .ensures) (trees.node-in-store _ (sym (r .before .row-of .ensures) ∙ r .if1 .left))
+    rw (c .if3 .left, n .if2 .left, n .before .store-words .ensures) (tree-of.node-in-store _ (sym (r .before .row-of .ensures) ∙ r .if1 .left))
 
 returns-4 : tie.Need-returns-4
 unfolding rootRows root

@@ -6,6 +6,7 @@ use Rattle.refusals.proofs.Table.{refused-equations, done-equations}
 use lib.ListN.{length}
 use Rattle.state_entries.specs.Permutation.{outcomeReply}
 use Rattle.tree_entries.specs.Trees.{storelessRows, storelessReply, storelessRooted}
+use Rattle.trees.proofs.SetTrees as tree-of
 use Rattle.tree_entries.proofs.AcceptedTrees as trees
 use Rattle.tree_entries.proofs.building.storeless_root.Statement.{statement}
 use Rattle.tree_entries.proofs.building.storeless_root.Tie as tie
@@ -30,14 +31,14 @@ storeless-root-requires : tie.Need-storeless-root-requires
 storeless-root-requires c κs =
     let d = c .before .before .before .before .before in
     let A = passed (d .before) in
-    rw (d .dimensions .ensures) (trees.valid-set _ (A .set), A .leaves-long, A .node-long)
+    rw (d .dimensions .ensures) (tree-of.valid-set _ (A .set), A .leaves-long, A .node-long)
 
 same-length-2 : tie.Need-same-length-2
 same-length-2 c =
     let w = c .before .before in
     let d = w .before .before .before .before .before .before in
     let A = passed (d .before) in
-    ap length (rw (d .dimensions .ensures) at (w .storeless-root .ensures)) ∙ trees.storeless-long _ (A .set) _ (A .leaves-long) ∙ sym (A .node-long)
+    ap length (rw (d .dimensions .ensures) at (w .storeless-root .ensures)) ∙ tree-of.storeless-long _ (A .set) _ (A .leaves-long) ∙ sym (A .node-long)
 
 returns-2 : tie.Need-returns-2
 unfolding outcomeReply storelessReply storelessRooted

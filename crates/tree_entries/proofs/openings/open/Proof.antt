@@ -4,9 +4,10 @@ use borrow.Author.Needs.{needs}
 use Rattle.modular.specs.Goldilocks.{p}
 use Rattle.refusals.proofs.Table.{refused-equations, done-equations}
 use lib.ListN.{length}
-use Rattle.tree_entries.proofs.AcceptedTrees.{same-size}
+use Rattle.trees.proofs.SetTrees.{same-size}
 use Rattle.state_entries.specs.Permutation.{outcomeReply}
 use Rattle.tree_entries.specs.Trees.{openRows, openReply, opened}
+use Rattle.trees.proofs.SetTrees as tree-of
 use Rattle.tree_entries.proofs.AcceptedTrees as trees
 use Rattle.tree_entries.proofs.openings.open.Statement.{statement}
 use Rattle.tree_entries.proofs.openings.open.Tie as tie
@@ -31,7 +32,7 @@ open-requires : tie.Need-open-requires
 open-requires c κs =
     let d = c .before in
     let A = passed (d .before) in
-    rw (d .dimensions .ensures) (trees.valid-numbers _ (A .set), λ D C. A .store-long ∙ same-size _ _ _ D C, A .place, A .siblings-long)
+    rw (d .dimensions .ensures) (tree-of.valid-numbers _ (A .set), λ D C. A .store-long ∙ same-size _ _ _ D C, A .place, A .siblings-long)
 
 same-length-2 : tie.Need-same-length-2
 same-length-2 c =
@@ -39,7 +40,7 @@ same-length-2 c =
     let d = w .before .before in
     let A = passed (d .before) in
     let s = d .before .before .before .before .before .before .args .set in
-    ap length (rw (d .dimensions .ensures) at (w .«open» .ensures (s .diagonal) (s .constants))) ∙ trees.laws _ (A .set) .opened _ _ _ (A .store-long) (A .place) .long ∙ sym (A .siblings-long)
+    ap length (rw (d .dimensions .ensures) at (w .«open» .ensures (s .diagonal) (s .constants))) ∙ tree-of.laws _ (A .set) .opened _ _ _ (A .store-long) (A .place) .long ∙ sym (A .siblings-long)
 
 returns-2 : tie.Need-returns-2
 unfolding outcomeReply openReply opened

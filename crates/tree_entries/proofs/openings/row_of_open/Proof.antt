@@ -10,8 +10,8 @@ use Rattle.merkle.specs.Openings.{opening}
 use Rattle.trees.specs.Shapes.{tree}
 use Rattle.trees.specs.declared.Dimensions.{Dimensions}
 use Rattle.tree_entries.specs.Trees.{openRows}
-use Rattle.tree_entries.proofs.AcceptedTrees.{same-size}
-use Rattle.tree_entries.proofs.AcceptedTrees as trees
+use Rattle.trees.proofs.SetTrees.{same-size}
+use Rattle.trees.proofs.SetTrees as tree-of
 use Rattle.refusals.proofs.LengthsPlacesAndWords.{at-10, at-11, at-words, twelve, no-twelve}
 use Rattle.refusals.proofs.LengthsAndWords.{first-bad, second-bad, both-good}
 use Rattle.tree_entries.proofs.openings.row_of_open.Statement.{statement}
@@ -71,7 +71,7 @@ opening-is-words-requires c κs =
     let m = q .before .before in
     let n = m .before .before in
     let r = n .before .before in
-    let v = trees.valid-numbers _ (sym (r .before .row-of .ensures) ∙ r .if1 .left) in
+    let v = tree-of.valid-numbers _ (sym (r .before .row-of .ensures) ∙ r .if1 .left) in
     rw (c .dimensions .ensures)
     (v, λ D C. n .if2 .left ∙ n .before .store-words .ensures ∙ same-size _ _ _ D C, rw (q .before .places .ensures) at (q .if4 .left))
 

@@ -6,6 +6,7 @@ use Rattle.modular.specs.Goldilocks.{p}
 use Rattle.refusals.specs.Table.{refused, done}
 use Rattle.refusals.proofs.Table.{reply-refused, reply-done}
 use Rattle.tree_entries.specs.Trees.{verdictReply, verifyRows, verifyReply}
+use Rattle.trees.proofs.SetTrees as tree-of
 use Rattle.tree_entries.proofs.AcceptedTrees as trees
 use Rattle.tree_entries.proofs.openings.verify.Statement.{statement}
 use Rattle.tree_entries.proofs.openings.verify.Tie as tie
@@ -29,7 +30,7 @@ accepts-requires : tie.Need-accepts-requires
 accepts-requires c κs =
     let d = c .before .before .before .before in
     let A = passed (d .before) in
-    rw (d .dimensions .ensures) (trees.valid-set _ (A .set), A .root-long, A .leaf-long, A .siblings-long)
+    rw (d .dimensions .ensures) (tree-of.valid-set _ (A .set), A .root-long, A .leaf-long, A .siblings-long)
 
 returns-2 : tie.Need-returns-2
 unfolding verdictReply verifyReply

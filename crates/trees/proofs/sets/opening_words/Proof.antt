@@ -2,10 +2,10 @@ use mathlib.Core.Path.{ap, _∙_}
 use Prim.Native.Nat.{_*_, _-_}
 use native.Mathlib.Omega.{arith}
 use borrow.Author.Needs.{needs}
 use Rattle.trees.specs.declared.Dimensions.{Dimensions}
-use Rattle.tree_entries.proofs.AcceptedTrees as trees
-use Rattle.tree_entries.proofs.sizes.opening_words.Statement.{statement}
-use Rattle.tree_entries.proofs.sizes.opening_words.Tie as tie
+use Rattle.trees.proofs.SetTrees as tree-of
+use Rattle.trees.proofs.sets.opening_words.Statement.{statement}
+use Rattle.trees.proofs.sets.opening_words.Tie as tie
 
 dimensions-requires : tie.Need-dimensions-requires
 dimensions-requires c κs = search needs
@@ -14,7 +14,7 @@ opening-size-requires : tie.Need-opening-size-requires
 opening-size-requires c κs =
     let z = c .before .pre in
     rw (c .dimensions .ensures)
-    (trees.arity-some _ z, trees.arity-few _ z, omega (arith, trees.size-fits _ z, trees.width-fits _ z), trees.valid-numbers _ z .low)
+    (tree-of.arity-some _ z, tree-of.arity-few _ z, omega (arith, tree-of.size-fits _ z, tree-of.width-fits _ z), tree-of.valid-numbers _ z .low)
 
 returns : tie.Need-returns
 returns c =

@@ -1,8 +1,8 @@
 use native.Mathlib.Omega.{arith}
 use borrow.Author.Needs.{needs}
-use Rattle.readers.proofs.Readings.{part-few}
-use Rattle.readers.proofs.levels.part_size.Statement.{statement}
-use Rattle.readers.proofs.levels.part_size.Tie as tie
+use Rattle.trees.proofs.Counts.{part-few}
+use Rattle.trees.proofs.sizes.part_size.Statement.{statement}
+use Rattle.trees.proofs.sizes.part_size.Tie as tie
 
 sub-result : tie.Need-sub-result
 sub-result c = search needs

@@ -1,17 +1,17 @@
 use mathlib.Core.Path.{ap, _∙_}
 use borrow.Author.Needs.{needs}
 use Rattle.merkle.specs.Levels.{size}
 use Rattle.trees.specs.Shapes.{tree}
 use Rattle.trees.specs.declared.Dimensions.{Dimensions}
-use Rattle.tree_entries.proofs.AcceptedTrees as trees
-use Rattle.tree_entries.proofs.sizes.store_words.Statement.{statement}
-use Rattle.tree_entries.proofs.sizes.store_words.Tie as tie
+use Rattle.trees.proofs.SetTrees as tree-of
+use Rattle.trees.proofs.sets.store_words.Statement.{statement}
+use Rattle.trees.proofs.sets.store_words.Tie as tie
 
 dimensions-requires : tie.Need-dimensions-requires
 dimensions-requires c κs = search needs
 
 store-size-requires : tie.Need-store-size-requires
-store-size-requires c κs = rw (c .dimensions .ensures) (trees.valid-numbers _ (c .before .pre))
+store-size-requires c κs = rw (c .dimensions .ensures) (tree-of.valid-numbers _ (c .before .pre))
 
 returns : tie.Need-returns
 returns c =

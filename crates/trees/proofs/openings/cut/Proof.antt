@@ -1,7 +1,7 @@
 use native.Mathlib.Nat.{add-sub-cancel-left}
 use borrow.Author.Needs.{needs}
-use Rattle.readers.proofs.levels.cut.Statement.{statement}
-use Rattle.readers.proofs.levels.cut.Tie as tie
+use Rattle.trees.proofs.openings.cut.Statement.{statement}
+use Rattle.trees.proofs.openings.cut.Tie as tie
 
 mul-from : tie.Need-mul-from
 mul-from c = search needs

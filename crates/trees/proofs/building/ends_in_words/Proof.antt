@@ -6,10 +6,10 @@ use lib.Seq.{take-all}
 use Rattle.modular.specs.Arithmetic.{allWords}
 use Rattle.modular.specs.Goldilocks.{p}
 use borrow.Author.Needs.{needs}
-use Rattle.tree_entries.proofs.building.ends_in_words.Statement.{statement}
-use Rattle.tree_entries.proofs.building.ends_in_words.Tie as tie
-use Rattle.tree_entries.proofs.building.ends_in_words.Reads as reads
-use Rattle.tree_entries.proofs.building.ends_in_words.Lts as lts
+use Rattle.trees.proofs.building.ends_in_words.Statement.{statement}
+use Rattle.trees.proofs.building.ends_in_words.Tie as tie
+use Rattle.trees.proofs.building.ends_in_words.Reads as reads
+use Rattle.trees.proofs.building.ends_in_words.Lts as lts
 use Rattle.parameters.proofs.all_words.Reads as all-words-reads
 
 -- src/tree.rt:114:14

@@ -5,12 +5,12 @@ use borrow.Author.Needs.{needs}
 use Rattle.modular.specs.Goldilocks.{p}
 use Rattle.merkle.specs.Lists.{part}
 use Rattle.merkle.specs.Openings.{siblingsAt, siblingSize}
 use Rattle.trees.specs.declared.Dimensions.{Dimensions}
-use Rattle.tree_entries.specs.Trees.{treeOf}
-use Rattle.tree_entries.proofs.AcceptedTrees as trees
-use Rattle.readers.proofs.Readings.{within}
-use Rattle.readers.proofs.levels.words_at.Statement.{statement}
-use Rattle.readers.proofs.levels.words_at.Tie as tie
+use Rattle.trees.specs.SetTrees.{treeOf}
+use Rattle.trees.proofs.SetTrees as tree-of
+use Rattle.trees.proofs.Counts.{within}
+use Rattle.trees.proofs.sets.level_words.Statement.{statement}
+use Rattle.trees.proofs.sets.level_words.Tie as tie
 
 dimensions-requires : tie.Need-dimensions-requires
 dimensions-requires c κs = search needs
@@ -19,7 +19,7 @@ part-size-requires : tie.Need-part-size-requires
 part-size-requires c κs =
     let z = c .before .before .pre .0 in
     rw (c .dimensions .ensures)
-    (trees.arity-some _ z, trees.arity-few _ z, omega (arith, trees.size-fits _ z, trees.width-fits _ z))
+    (tree-of.arity-some _ z, tree-of.arity-few _ z, omega (arith, tree-of.size-fits _ z, tree-of.width-fits _ z))
 
 -- the size that the code has is that of a level's siblings
 size-is : (c : tie.After-part-size) → c .part-size .result ≡ siblingSize (treeOf p (c .before .before .before .args .set))
@@ -37,5 +37,5 @@ returns c =
     let a = c .before .before .before .before .args in
     c .«cut» .ensures ∙ ap (λ (n : ℕ). part (a .level * n) n (a .siblings .now)) (size-is (c .before))
 
-pub words-at-spec : {M : Type 1} → statement M
-words-at-spec = tie.close (tie.spec dimensions-requires part-size-requires cut-requires returns)
+pub level-words-spec : {M : Type 1} → statement M
+level-words-spec = tie.close (tie.spec dimensions-requires part-size-requires cut-requires returns)

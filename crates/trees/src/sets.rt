@@ -1,14 +1,18 @@
-// The sizes of the tree of a set that no row turns down.
+// The tree of a set that is accepted: its numbers as the tree's work uses them, its sizes, and a level's part of its openings.
 ghost use mathlib.Core.Path.{_≡_};
-ghost use Prim.Native.Nat.{_*_, _-_, _≤_};
+ghost use Prim.Native.Nat.{_<_};
+ghost use lib.ListN.{length};
 ghost use Rattle.modular.specs.Goldilocks.{p};
 ghost use Rattle.refusals.specs.Table.{firstRow};
 ghost use Rattle.parameters.specs.ParameterSet.{setRows};
-ghost use Rattle.tree_entries.specs.Trees.{dimensionsOf, leafCount, leafWords, storeWords, openingWords};
+ghost use Rattle.merkle.specs.Openings.{siblingsAt};
+ghost use Rattle.trees.specs.SetTrees.{treeOf, dimensionsOf, leafCount, leafWords, storeWords, openingWords, partWords};
+use crate::Dimensions;
+use crate::openings;
+use crate::sizes;
 use parameters::ParameterSet;
-use trees::Dimensions;
 
-// The numbers of a set that no row turns down, as the tree's work uses them.
+// The set's numbers as the tree's work uses them.
 pub fn dimensions(set: ParameterSet) -> Dimensions
     requires { ⌜ firstRow (setRows p set) ≡ 0 ⌝ }
     ensures { λ r. ⌜ r ≡ dimensionsOf set ⌝ }
@@ -28,7 +32,7 @@ pub fn places(set: ParameterSet) -> usize
     ensures { λ r. ⌜ r ≡ leafCount p set ⌝ }
 {
     let d = dimensions(set);
-    trees::leaf_count(d.arity, d.height)
+    sizes::leaf_count(d.arity, d.height)
 }
 
 pub fn leaf_words(set: ParameterSet) -> usize
@@ -43,7 +47,7 @@ pub fn store_words(set: ParameterSet) -> usize
     ensures { λ r. ⌜ r ≡ storeWords p set ⌝ }
 {
     let d = dimensions(set);
-    trees::store_size(d)
+    sizes::store_size(d)
 }
 
 pub fn opening_words(set: ParameterSet) -> usize
@@ -51,12 +55,23 @@ pub fn opening_words(set: ParameterSet) -> usize
     ensures { λ r. ⌜ r ≡ openingWords p set ⌝ }
 {
     let d = dimensions(set);
-    opening_size(d.arity, d.node_size, d.height)
+    sizes::opening_size(d.arity, d.node_size, d.height)
 }
 
-fn opening_size(arity: usize, node_size: usize, height: usize) -> usize
-    requires { ⌜ (1 ≤ arity) × (arity ≤ 12) × («node_size» ≤ 12) × (height ≤ 32) ⌝ }
-    ensures { λ r. ⌜ r ≡ height * ((arity - 1) * «node_size») ⌝ }
+pub fn part_words(set: ParameterSet) -> usize
+    requires { ⌜ firstRow (setRows p set) ≡ 0 ⌝ }
+    ensures { λ r. ⌜ r ≡ partWords p set ⌝ }
 {
-    height * ((arity - 1) * node_size)
+    let d = dimensions(set);
+    sizes::part_size(d.arity, d.node_size)
+}
+
+// The part of one level of an opening.
+pub fn level_words<'a>(set: ParameterSet, siblings: &'a [u64], level: u64) -> &'a [u64]
+    requires { ⌜ (firstRow (setRows p set) ≡ 0) × (length (now siblings) ≡ openingWords p set) × (level < set .height) ⌝ }
+    ensures { λ r. ⌜ now r ≡ siblingsAt (treeOf p set) (now (siblings .entry)) level ⌝ }
+{
+    let d = dimensions(set);
+    let size = sizes::part_size(d.arity, d.node_size);
+    openings::cut(siblings, size, level as usize)
 }

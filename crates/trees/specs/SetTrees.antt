@@ -1,0 +1,37 @@
+-- The tree of a parameter set, and its sizes.
+use Prim.Native.Nat.{ℕ, _*_, _-_, _/_, _^_}
+use Rattle.parameters.specs.declared.ParameterSet.{ParameterSet}
+use Rattle.merkle.specs.Levels.{Shape, size}
+use Rattle.trees.specs.Shapes.{shape}
+use Rattle.trees.specs.declared.Dimensions.{Dimensions}
+
+-- The tree of a set: arity k = t / l, its rows compressed under the set.
+abbrev pub treeOf : ℕ → ParameterSet → Shape
+treeOf p s = shape p (s .width) (s .«node_size») (s .«full_rounds» / 2) (s .«partial_rounds») (s .diagonal) (s .constants)
+
+-- The set's numbers as the tree's work uses them.
+abbrev pub dimensionsOf : ParameterSet → Dimensions
+dimensionsOf s = record {
+  arity = s .width / s .«node_size»;
+  «node_size» = s .«node_size»;
+  height = s .height;
+  half = s .«full_rounds» / 2;
+  «partial_rounds» = s .«partial_rounds»;
+}
+
+-- k^h leaves, and the words of the leaves, the store and an opening
+abbrev pub leafCount : ℕ → ParameterSet → ℕ
+leafCount p s = treeOf p s .arity ^ s .height
+
+abbrev pub leafWords : ℕ → ParameterSet → ℕ
+leafWords p s = leafCount p s * s .«node_size»
+
+abbrev pub storeWords : ℕ → ParameterSet → ℕ
+storeWords p s = size (treeOf p s) (s .height)
+
+abbrev pub openingWords : ℕ → ParameterSet → ℕ
+openingWords p s = s .height * ((treeOf p s .arity - 1) * s .«node_size»)
+
+-- a level's part of an opening
+abbrev pub partWords : ℕ → ParameterSet → ℕ
+partWords p s = (treeOf p s .arity - 1) * s .«node_size»
