@@ -3,7 +3,7 @@ ghost use mathlib.Core.Path.{_≡_};
 ghost use Rattle.modular.specs.Goldilocks.{p};
 ghost use Rattle.parameters.specs.ParameterSet.{holding};
 ghost use Rattle.change_entries.specs.Replacement.{replaceReply, replaced};
-ghost use Rattle.listed_pushes.specs.Listed.{listedReply, listedPushed};
+ghost use Rattle.push_entries.specs.Listed.{listedReply, listedPushed};
 ghost use Rattle.extraction_entries.specs.Extraction.{pair, extractReply, extractedFirst, extractedSecond};
 ghost use Rattle.replies.specs.Replies.{numberOf, valueAfter};
 ghost use Rattle.exports.specs.Exports.{through, leaving};

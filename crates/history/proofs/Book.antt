@@ -23,9 +23,9 @@ use Rattle.merkle.proofs.Levels.{fits}
 use Rattle.trees.specs.SetTrees.{treeOf, leafCount}
 use Rattle.tree_entries.specs.Trees.{has}
 use Rattle.pushes.specs.declared.record.Record.{Record}
-use Rattle.pushes.specs.Pushes.{leafOf, changesOf, placesBelow, usedWords, fewRecords}
+use Rattle.pushes.specs.Records.{leafOf, changesOf, placesBelow, usedWords, SixWords}
+use Rattle.push_entries.specs.Pushes.{fewRecords}
 use Rattle.history.specs.LeafBook.{Call, replacement, push, enterAll, bookRows, bookCount, bookReply, entered, bookAfter}
-use Rattle.history.specs.Demand3.{SixWords}
 use Rattle.history.proofs.Replies.{after-holds}
 use Rattle.history.proofs.Sets.{Leaves, six}
 

@@ -22,10 +22,10 @@ use Rattle.trees.proofs.SetTrees.{laws}
 use Rattle.change_entries.specs.Replacement.{replaceRows, replaceReply, replaced}
 use Rattle.change_entries.specs.Replacement as entry
 use Rattle.pushes.specs.declared.record.Record.{Record}
-use Rattle.pushes.specs.Pushes.{changesOf, placesBelow, usedWords, fewRecords, pushRows, pushing, pushReply, pushed}
+use Rattle.pushes.specs.Records.{changesOf, placesBelow, usedWords, SixWords}
+use Rattle.push_entries.specs.Pushes.{fewRecords, pushRows, pushing, pushReply, pushed}
 use Rattle.history.specs.LeafBook.{Call, replacement, push, bookRows, bookCount, bookReply, entered, bookAfter}
 use Rattle.history.specs.History.{callReply, callStore}
-use Rattle.history.specs.Demand3.{SixWords}
 use Rattle.history.proofs.Replies.{same-reply, after-through}
 use Rattle.history.proofs.Sets.{storeOf, Leaves, words, store-long, store-words}
 use Rattle.history.proofs.Book.{book-numbered, changed-entered, Good, good, Fit, fit, leaf-fits, first-inside, rest-fits, replacement-leaves, push-leaves}

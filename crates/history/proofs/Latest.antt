@@ -20,9 +20,9 @@ use Rattle.merkle.proofs.Lists.{part-put, part-put-before, part-put-behind}
 use Rattle.merkle.proofs.Levels.{fits}
 use Rattle.trees.specs.SetTrees.{leafCount}
 use Rattle.pushes.specs.declared.record.Record.{Record}
-use Rattle.pushes.specs.Pushes.{leafOf, changesOf, usedWords}
+use Rattle.pushes.specs.Records.{leafOf, changesOf, usedWords, SixWords}
 use Rattle.history.specs.LeafBook.{Call, replacement, push, leafAt, enterAll, bookRows, bookCount, bookReply, entered, bookAfter, bookLeaves}
-use Rattle.history.specs.Demand3.{SixWords, Typed}
+use Rattle.history.specs.Demand3.{Typed}
 use Rattle.history.specs.Latest.{brought, ifAccepted, accepted, lastFor, Latest}
 use Rattle.history.proofs.Sets.{Leaves, begun}
 use Rattle.history.proofs.Book.{book-numbered, good, Fit, fit, leaf-fits, first-inside, rest-fits, put-leaves, replacement-leaves, push-leaves}

@@ -14,7 +14,8 @@ use Rattle.parameters.specs.declared.ParameterSet.{ParameterSet}
 use Rattle.trees.specs.SetTrees.{leafCount, storeWords, openingWords}
 use Rattle.tree_entries.specs.Trees.{has, built, opened, verifyReply}
 use Rattle.trees.proofs.SetTrees.{laws}
-use Rattle.pushes.specs.Pushes.{placesBelow, usedWords, fewRecords}
+use Rattle.pushes.specs.Records.{placesBelow, usedWords}
+use Rattle.push_entries.specs.Pushes.{fewRecords}
 use Rattle.extraction_entries.specs.Extraction.{Pair, extractRows, collision, levelOf, extractReply, extractedFirst, extractedSecond}
 use Rattle.extraction_entries.specs.Statements.{IsRow}
 use Rattle.extraction_entries.proofs.Statements.{written}

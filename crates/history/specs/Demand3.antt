@@ -12,15 +12,11 @@ use Rattle.trees.specs.SetTrees.{treeOf, leafCount, storeWords, openingWords}
 use Rattle.tree_entries.specs.Trees.{buildReply, built, openReply, opened, verifyReply}
 use Rattle.extraction_entries.specs.Extraction.{pair}
 use Rattle.extraction_entries.specs.Statements.{Collides}
-use Rattle.pushes.specs.declared.record.Record.{Record}
+use Rattle.pushes.specs.Records.{SixWords}
 use Rattle.history.specs.LeafBook.{Call, replacement, push, leafAt, bookLeaves, bookAnswers}
 use Rattle.history.specs.History.{Ran, run}
 
 -- All that is presumed of calls: a record's words are of the type [u64; 6], so there are six.
-abbrev pub SixWords : List Record → Type 0
-SixWords [] = Unit {0}
-SixWords (r ∷ rs) = (length (r .words) ≡ 6) × SixWords rs
-
 abbrev pub Typed : List Call → Type 0
 Typed [] = Unit {0}
 Typed (replacement q leaf ∷ cs) = Typed cs

@@ -5,7 +5,7 @@ use Prim.Native.Nat.{ℕ}
 use Rattle.refusals.specs.Table.{Reply}
 use Rattle.parameters.specs.declared.ParameterSet.{ParameterSet}
 use Rattle.change_entries.specs.Replacement.{replaceReply, replaced}
-use Rattle.pushes.specs.Pushes.{pushReply, pushed}
+use Rattle.push_entries.specs.Pushes.{pushReply, pushed}
 use Rattle.history.specs.LeafBook.{Call, replacement, push}
 
 -- the store after a list of calls, and their answers in order

@@ -11,7 +11,8 @@ use Rattle.merkle.specs.Lists.{part, put}
 use Rattle.trees.specs.SetTrees.{leafCount}
 use Rattle.tree_entries.specs.Trees.{has}
 use Rattle.pushes.specs.declared.record.Record.{Record}
-use Rattle.pushes.specs.Pushes.{leafOf, placesBelow, usedWords, fewRecords}
+use Rattle.pushes.specs.Records.{leafOf, placesBelow, usedWords}
+use Rattle.push_entries.specs.Pushes.{fewRecords}
 
 -- A call's arguments beside the set and the store: a place and a leaf, or a list of records.
 pub data Call : Type 0 where

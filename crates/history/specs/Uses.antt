@@ -16,10 +16,10 @@ use Rattle.tree_entries.specs.Trees.{buildReply, built, opened, verifyReply}
 use Rattle.extraction_entries.specs.Extraction.{pair}
 use Rattle.extraction_entries.specs.Statements.{IsRow, Collides}
 use Rattle.pushes.specs.declared.record.Record.{Record}
-use Rattle.pushes.specs.Pushes.{placesBelow, usedWords}
+use Rattle.pushes.specs.Records.{placesBelow, usedWords, SixWords}
 use Rattle.history.specs.LeafBook.{Call, replacement, push, leafAt, bookLeaves}
 use Rattle.history.specs.History.{Ran, run}
-use Rattle.history.specs.Demand3.{SixWords, Typed, rootOf}
+use Rattle.history.specs.Demand3.{Typed, rootOf}
 
 -- whatever list of calls is done on whatever built store, with what it left and the book's leaves
 abbrev pub AfterCalls : (ParameterSet → Ran → List ℕ → Type 0) → Type 0

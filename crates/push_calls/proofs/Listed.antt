@@ -6,7 +6,7 @@ use native.Mathlib.Numerals.{add-one}
 use lib.ListN.{length, take, set, length-set}
 use lib.Seq.{take-suc-set}
 use Rattle.pushes.specs.declared.record.Record.{Record}
-use Rattle.listed_pushes.specs.Listed.{recordAt, recordsOf}
+use Rattle.pushes.specs.Listed.{recordAt, recordsOf}
 use Rattle.push_calls.specs.Listed.{firstSixteen}
 
 -- the first i are there

@@ -3,7 +3,7 @@ use mathlib.Core.List.{List}
 use Prim.Native.Nat.{ℕ, _/_, min}
 use lib.ListN.{length}
 use Rattle.pushes.specs.declared.record.Record.{Record}
-use Rattle.listed_pushes.specs.Listed.{recordsOf}
+use Rattle.pushes.specs.Listed.{recordsOf}
 
 -- at most sixteen
 unfoldable pub firstSixteen : List ℕ → List Record

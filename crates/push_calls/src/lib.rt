@@ -4,7 +4,7 @@ ghost use Prim.Native.Nat.{_≤_, _/_, min};
 ghost use lib.ListN.{length, take};
 ghost use Rattle.modular.specs.Goldilocks.{p};
 ghost use Rattle.change_entries.specs.Replacement.{changedReply};
-ghost use Rattle.pushes.specs.Pushes.{pushReply, pushed};
+ghost use Rattle.push_entries.specs.Pushes.{pushReply, pushed};
 ghost use Rattle.push_calls.specs.Listed.{firstSixteen};
 use change_entries::Changed;
 use parameters::ParameterSet;
@@ -21,7 +21,7 @@ pub fn push_first(
     ensures { λ r. ⌜ (changedReply r ≡ pushReply p set (now (store .entry)) (take count records))
         × (now (store .exit) ≡ pushed p set (now (store .entry)) (take count records)) ⌝ }
 {
-    pushes::push(set, store, &records[..count])
+    push_entries::push(set, store, &records[..count])
 }
 
 fn record_count(numbers: &[u64]) -> usize
@@ -47,7 +47,7 @@ pub fn push_list(set: ParameterSet, store: &mut [u64], numbers: &[u64]) -> Chang
     let mut records = [blank; 16];
     let mut i: usize = 0;
     while i < count {
-        let next = listed_pushes::record_at(numbers, i);
+        let next = pushes::listing::record_at(numbers, i);
         records[i] = next;
         i += 1;
     }

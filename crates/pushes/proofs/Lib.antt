@@ -1,6 +1,6 @@
--- The laws of the passes, and what the proofs of the walked functions cite.
+-- The laws of records and passes, and what the proofs of the walked functions cite.
 mod Records
+pub mod Listed
 pub mod Turns
-pub mod Passes
-mod Lending
-mod Values
+pub mod Lending
+pub mod Values

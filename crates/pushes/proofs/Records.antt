@@ -1,70 +1,33 @@
 -- What an accepted set and a tally without refusal give, and what one step keeps.
 use mathlib.Core.Path.{_≡_, refl, sym, ap, _∙_}
-use mathlib.Core.Logic.{_≢_}
-use mathlib.Core.Bool.{Bool, true, false, cond, not, _&&_}
-use mathlib.Core.List.{List, []}
-use Prim.Native.Nat.{ℕ, zero, suc, _+_, _^_, _≤_, _<_}
+use mathlib.Core.Bool.{Bool, true, false, cond, _&&_}
+use mathlib.Core.List.{List}
+use Prim.Native.Nat.{ℕ, suc, _+_, _≤_, _<_}
 use native.Mathlib.Nat.{mul-le-mul-right}
 use native.Mathlib.Omega.{arith}
-use lib.Dec.{lit<, eqb, ltb, leb}
+use lib.Dec.{eqb, ltb}
 use lib.ListN.{length}
 use borrow.Author.Tests.{eqb-true, ltb-true}
 use Rattle.modular.specs.Goldilocks.{p}
 use Rattle.modular.specs.Arithmetic.{allWords}
 use Rattle.modular.proofs.Words.{left-true, right-true}
-use Rattle.refusals.specs.Table.{firstRow, row}
-use Rattle.refusals.proofs.Table.{Numbered, none as no-rows, next, numbered-append, row-applies, row-passes, first-front, first-back}
+use Rattle.refusals.specs.Table.{firstRow}
 use Rattle.parameters.specs.declared.ParameterSet.{ParameterSet}
 use Rattle.parameters.specs.ParameterSet.{setRows}
-use Rattle.parameters.proofs.Accepted.{set-numbered}
 use Rattle.merkle.specs.Replacement.{Counted, replaceFrom}
 use Rattle.merkle.proofs.Replacement.{replace-made}
 use Rattle.trees.specs.Shapes.{counted}
-use Rattle.trees.specs.SetTrees.{treeOf, leafCount, storeWords}
-use Rattle.tree_entries.specs.Trees.{has}
+use Rattle.trees.specs.SetTrees.{treeOf}
 use Rattle.trees.proofs.SetTrees as tree-of
 use Rattle.pushes.specs.declared.record.Record.{Record}
 use Rattle.pushes.specs.declared.tally.Tally.{Tally}
-use Rattle.pushes.specs.Pushes.{leafOf}
-use Rattle.pushes.specs.Passes.{Pass, pass, Going, earlyRows, begun, beginOf, testOf, mayWrite, wrote, writeOf, stepOf}
+use Rattle.pushes.specs.Records.{leafOf}
+use Rattle.pushes.specs.Passes.{Pass, pass, Going, testOf, mayWrite, wrote, writeOf, stepOf}
 
 -- a leaf is among a record's six words
 pub leaf-in-record : (s : ParameterSet) → firstRow (setRows p s) ≡ 0 → s .«node_size» ≤ 6
 leaf-in-record s none =
     omega (arith, mul-le-mul-right (s .«node_size») (tree-of.valid-numbers s none .several), tree-of.width-is s none, tree-of.width-fits s none)
-
--- ---- the beginning
-
-module _ (s : ParameterSet) (store : List ℕ) (n : ℕ) where
-  abbrev badLengths : Bool
-  badLengths = not (has store (storeWords p s) && leb n (2 ^ 32))
-
-  pub early-numbered : Numbered (earlyRows p s store n)
-  unfolding earlyRows
-  early-numbered = numbered-append (set-numbered p s) (next (lit< tt) no-rows)
-
-  pub early-set : firstRow (setRows p s) ≢ 0 → firstRow (earlyRows p s store n) ≡ firstRow (setRows p s)
-  unfolding earlyRows
-  early-set o = first-front (setRows p s) _ o
-
-  pub early-ten : firstRow (setRows p s) ≡ 0 → badLengths ≡ true → firstRow (earlyRows p s store n) ≡ 10
-  unfolding earlyRows
-  early-ten z e = first-back (setRows p s) _ (set-numbered p s) z ∙ row-applies 10 badLengths _ e
-
-  pub early-none : firstRow (setRows p s) ≡ 0 → badLengths ≡ false → firstRow (earlyRows p s store n) ≡ 0
-  unfolding earlyRows firstRow
-  early-none z e = first-back (setRows p s) _ (set-numbered p s) z ∙ row-passes 10 badLengths [] e
-
-  pub begin-refused : (k : ℕ) → k ≢ 0 → firstRow (earlyRows p s store n) ≡ k
-      → record { row = k; places = 0; placed = true; words = true; made = 0 } ≡ beginOf p s store n
-  unfolding beginOf
-  begin-refused zero o e = absurd (o refl)
-  begin-refused (suc k) o e = ap (λ (r : ℕ). begun r (leafCount p s) (allWords p store)) (sym e)
-
-  pub begin-clear : (m : ℕ) (w : Bool) → m ≡ leafCount p s → w ≡ allWords p store → firstRow (earlyRows p s store n) ≡ 0
-      → record { row = 0; places = m; placed = true; words = w; made = 0 } ≡ beginOf p s store n
-  unfolding beginOf
-  begin-clear m w f g e = (λ i. begun 0 (f i) (g i)) ∙ ap (λ (r : ℕ). begun r (leafCount p s) (allWords p store)) (sym e)
 
 -- ---- a write that is allowed
 

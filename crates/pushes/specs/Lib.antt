@@ -1,3 +1,4 @@
--- What a push replies and leaves, and the passes that it makes.
-pub mod Pushes
+-- Replacement records, and the passes that a push makes over them.
+pub mod Records
+pub mod Listed
 pub mod Passes

@@ -1,36 +1,21 @@
 -- The two passes of a push, as its code makes them: each record is tested, then each is written.
--- Nothing here has to be believed: the laws of `proofs/Passes.antt` equate it with `Pushes`.
+-- Nothing here has to be believed: that a push made of them is what its definition says is proved in push_entries.
 use mathlib.Core.Path.{_≡_}
-use mathlib.Core.Bool.{Bool, true, cond, not, _&&_}
-use mathlib.Core.List.{List, [], _∷_, _++_}
-use Prim.Native.Nat.{ℕ, zero, suc, _+_, _*_, _^_, _<_}
-use lib.Dec.{eqb, ltb, leb}
+use mathlib.Core.Bool.{Bool, cond, _&&_}
+use mathlib.Core.List.{List, [], _∷_}
+use Prim.Native.Nat.{ℕ, _+_, _*_, _^_, _<_}
+use lib.Dec.{eqb, ltb}
 use lib.ListN.{length}
 use Rattle.modular.specs.Arithmetic.{allWords}
-use Rattle.refusals.specs.Table.{TableRow, row, firstRow}
+use Rattle.refusals.specs.Table.{firstRow}
 use Rattle.parameters.specs.declared.ParameterSet.{ParameterSet}
 use Rattle.parameters.specs.ParameterSet.{setRows}
 use Rattle.merkle.specs.Replacement.{Counted, replaceFrom}
 use Rattle.trees.specs.Shapes.{counted}
 use Rattle.trees.specs.SetTrees.{treeOf, leafCount, storeWords}
-use Rattle.tree_entries.specs.Trees.{has}
-use Rattle.change_entries.specs.declared.changed.Changed.{Changed}
-use Rattle.change_entries.specs.declared.changed.Changed.the-variants.{Compressions, Refused}
 use Rattle.pushes.specs.declared.record.Record.{Record}
 use Rattle.pushes.specs.declared.tally.Tally.{Tally}
-use Rattle.pushes.specs.Pushes.{leafOf}
-
--- rows 1 to 10, for n records
-unfoldable pub earlyRows : ℕ → ParameterSet → List ℕ → ℕ → List TableRow
-earlyRows p s store n = setRows p s ++ (row 10 (not (has store (storeWords p s) && leb n (2 ^ 32))) ∷ [])
-
--- what a push begins with: the first of these rows, or 0; then the places and whether the store is words
-abbrev pub begun : ℕ → ℕ → Bool → Tally
-begun zero n w = record { row = 0; places = n; placed = true; words = w; made = 0 }
-begun (suc r) n w = record { row = suc r; places = 0; placed = true; words = true; made = 0 }
-
-unfoldable pub beginOf : ℕ → ParameterSet → List ℕ → ℕ → Tally
-beginOf p s store n = begun (firstRow (earlyRows p s store n)) (leafCount p s) (allWords p store)
+use Rattle.pushes.specs.Records.{leafOf}
 
 -- the tally and the store in the course of a pass
 pub record Pass : Type 0 where
@@ -77,9 +62,6 @@ stepOf p s phase r u = cond (eqb phase 0) (pass (testOf p s r (u .tally)) (u .st
 unfoldable pub eachOf : ℕ → ParameterSet → ℕ → List Record → Pass → Pass
 eachOf p s phase [] u = u
 eachOf p s phase (r ∷ rs) u = eachOf p s phase rs (stepOf p s phase r u)
-
-unfoldable pub finishOf : Tally → Changed
-finishOf t = cond (eqb (t .row) 0) (cond (t .placed) (cond (t .words) (Compressions (t .made)) (Refused 12)) (Refused 11)) (Refused (t .row))
 
 -- What a pass over n records presumes: the set and the store's length passed where the tally has no row, and the count has room.
 pub record Going (p : ℕ) (s : ParameterSet) (store : List ℕ) (t : Tally) (n : ℕ) : Type 0 where

@@ -1,8 +1,8 @@
-// Pushes: lent lists of replacement records.
-mod pushing;
+// Replacement records, and the passes that a push makes over them. Every function presumes what the push has tested before.
+pub mod listing;
+pub mod passes;
 pub mod record;
 pub mod steps;
 pub mod tally;
 
-pub use pushing::push;
 pub use record::Record;

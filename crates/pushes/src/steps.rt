@@ -1,4 +1,4 @@
-// The parts of a push: where it begins, what is done with one record, and the answer.
+// What a push does with one record.
 ghost use mathlib.Core.Path.{_≡_};
 ghost use mathlib.Core.Bool.{true, _&&_};
 ghost use Prim.Native.Nat.{_+_, _≤_, _<_, _^_};
@@ -10,48 +10,11 @@ ghost use Rattle.parameters.specs.ParameterSet.{setRows};
 ghost use Rattle.merkle.specs.Replacement.{replaceFrom};
 ghost use Rattle.trees.specs.Shapes.{counted};
 ghost use Rattle.trees.specs.SetTrees.{treeOf, leafCount, storeWords};
-ghost use Rattle.pushes.specs.Passes.{pass, Going, beginOf, testOf, mayWrite, stepOf, finishOf};
+ghost use Rattle.pushes.specs.Passes.{pass, Going, testOf, mayWrite, stepOf};
 use crate::record::Record;
 use crate::tally::Tally;
-use change_entries::Changed;
 use parameters::ParameterSet;
 use trees::sets;
-
-// A refusal by one of rows 1 to 10.
-fn turned_back(row: u8) -> Tally
-    ensures { λ r. ⌜ r ≡ record { row = row; places = 0; placed = true; words = true; made = 0 } ⌝ }
-{
-    Tally {
-        row: row,
-        places: 0,
-        placed: true,
-        words: true,
-        made: 0,
-    }
-}
-
-// Rows 1 to 10, and row 12 of the store.
-pub fn begin(set: ParameterSet, store: &[u64], count: usize) -> Tally
-    ensures { λ r. ⌜ r ≡ beginOf p set (now (store .entry)) count ⌝ }
-{
-    let row = state_entries::row_of(set);
-    if row != 0 {
-        return turned_back(row);
-    }
-    if store.len() != sets::store_words(set) {
-        return turned_back(10);
-    }
-    if 4294967296 < count {
-        return turned_back(10);
-    }
-    Tally {
-        row: 0,
-        places: sets::places(set) as u64,
-        placed: true,
-        words: parameters::all_words(store),
-        made: 0,
-    }
-}
 
 fn both(a: bool, b: bool) -> bool
     ensures { λ r. ⌜ r ≡ (a && b) ⌝ }
@@ -141,20 +104,4 @@ pub fn step(set: ParameterSet, store: &mut [u64], phase: u64, tally: Tally, item
         words: tally.words,
         made: made,
     }
-}
-
-// The lowest row that applies, or the count.
-pub fn finish(tally: Tally) -> Changed
-    ensures { λ r. ⌜ r ≡ finishOf tally ⌝ }
-{
-    if tally.row != 0 {
-        return Changed::Refused(tally.row);
-    }
-    if !tally.placed {
-        return Changed::Refused(11);
-    }
-    if !tally.words {
-        return Changed::Refused(12);
-    }
-    Changed::Compressions(tally.made)
 }

@@ -52,13 +52,13 @@ use Rattle.change_entries.specs.Replacement.{changedReply}
 use Rattle.change_entries.proofs.changed.Changed as S
 use Rattle.change_entries.proofs.changed.Changed.Laws as S′
 use Rattle.pushes.specs.declared.record.Record.{Record}
-use Rattle.pushes.specs.Pushes.{pushReply, pushed}
+use Rattle.push_entries.specs.Pushes.{pushReply, pushed}
 use Rattle.pushes.proofs.record.Record as T
 use Rattle.pushes.proofs.record.Record.Laws as T′
-use Rattle.pushes.proofs.push as push
-use Rattle.pushes.proofs.push.Symbol as push-def
-use Rattle.pushes.proofs.push.Symbol.{name as #push}
-use Rattle.pushes.proofs.push.Met as push-met
+use Rattle.push_entries.proofs.push as push
+use Rattle.push_entries.proofs.push.Symbol as push-def
+use Rattle.push_entries.proofs.push.Symbol.{name as #push}
+use Rattle.push_entries.proofs.push.Met as push-met
 use Rattle.push_calls.proofs.Firsts.{R, recordTy, av, Elements, apart, again-room, firsts, lends-firsts}
 use Rattle.push_calls.proofs.push_first as all
 use Rattle.push_calls.proofs.push_first.Key.{name as #push-first}
@@ -243,4 +243,4 @@ push-first-spec 𝓤 H 𝓜 𝓖 𝓡 =
     entered 𝓤 H (tripleOf 𝓤 H (𝓖 .A) all.signature (all.spec 𝓤 H (𝓖 .A) (𝓜 .mem) (𝓡 .run)))
     (tables 𝓤 H 𝓜 𝓡 code.env .C) (tables 𝓤 H 𝓜 𝓡 code.env .Λ) #push-first code.function (code.unfolded 𝓤 H 𝓜 𝓡)
     (all-meets 𝓤 H (𝓖 .A) (givenOf 𝓤 H 𝓜 𝓖) (𝓜 .mem) (𝓡 .run) (tablesOf 𝓤 H 𝓜 (tables 𝓤 H 𝓜 𝓡 code.env))
-    (cited 𝓤 H (Push 𝓤 H (𝓖 .A) (𝓜 .mem) (𝓡 .run)) 𝓜 𝓡 code.env #push push-def.routine code.calls-pushes·push (push-met.met 𝓤 H 𝓜 𝓖 𝓡)))
+    (cited 𝓤 H (Push 𝓤 H (𝓖 .A) (𝓜 .mem) (𝓡 .run)) 𝓜 𝓡 code.env #push push-def.routine code.calls-push-entries·push (push-met.met 𝓤 H 𝓜 𝓖 𝓡)))

@@ -5,7 +5,7 @@ use native.Mathlib.Omega.{arith}
 use lib.ListN.{take}
 use borrow.Author.Needs.{needs}
 use Rattle.modular.specs.Goldilocks.{p}
-use Rattle.pushes.specs.Pushes.{pushReply, pushed}
+use Rattle.push_entries.specs.Pushes.{pushReply, pushed}
 use Rattle.push_calls.specs.Listed.{firstSixteen}
 use Rattle.push_calls.proofs.Listed.{Filled, filled-none, filled-next, filled-all}
 use Rattle.push_calls.proofs.push_list.Statement.{statement}

@@ -1,2 +1,0 @@
--- Records read from a flat list of numbers, and what a push of them replies and leaves.
-pub mod Listed

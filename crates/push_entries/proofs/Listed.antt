@@ -1,0 +1,109 @@
+-- A list of whole records is pushed as its records are, and any other is refused, by row 10 at the latest.
+use mathlib.Core.Path.{_≡_, refl, sym, ap, subst, _∙_}
+use mathlib.Core.Logic.{_≢_}
+use mathlib.Core.Bool.{Bool, true, false, not, _&&_}
+use mathlib.Core.List.{List, [], _∷_, _++_, append-assoc}
+use Prim.Native.Nat.{ℕ, _*_, _/_, _%_, _^_, _<_}
+use native.Mathlib.Omega.{arith}
+use lib.ListN.{length}
+use borrow.Author.Tests.{eq-eqb, ne-eqb}
+use Rattle.modular.specs.Goldilocks.{p}
+use Rattle.refusals.specs.Table.{TableRow, row, firstRow, notWords, refused, reply, after}
+use Rattle.refusals.proofs.Table.{row-applies, first-front, first-none, refused-equations}
+use Rattle.parameters.specs.declared.ParameterSet.{ParameterSet}
+use Rattle.parameters.specs.ParameterSet.{setRows}
+use Rattle.parameters.proofs.Accepted.{set-numbered}
+use Rattle.trees.specs.SetTrees.{leafCount, storeWords}
+use Rattle.tree_entries.specs.Trees.{has}
+use Rattle.change_entries.specs.declared.changed.Changed.{Changed}
+use Rattle.change_entries.specs.Replacement.{changedReply}
+use Rattle.pushes.specs.declared.record.Record.{Record}
+use Rattle.pushes.specs.declared.tally.Tally.{Tally}
+use Rattle.pushes.specs.Records.{placesBelow, usedWords}
+use Rattle.push_entries.specs.Pushes.{fewRecords, pushing, pushRows, pushReply, pushed}
+use Rattle.pushes.specs.Passes.{Pass, pass, Going, eachOf}
+use Rattle.push_entries.specs.Ends.{beginOf, finishOf}
+use Rattle.push_entries.proofs.Passes.{begins, pushes, at-once, first-asks, second-asks}
+use Rattle.pushes.specs.Listed.{listed, wholeRecords}
+use Rattle.push_entries.specs.Listed.{listedRows, listedReply, listedPushed}
+use Rattle.pushes.proofs.Listed.{listed-count}
+
+-- the row where a record is not whole: never 0
+abbrev partRow : ParameterSet → ℕ
+partRow s = firstRow (setRows p s ++ (row 10 true ∷ []))
+
+part-refused : (s : ParameterSet) → partRow s ≢ 0
+part-refused s e = absurd (omega (arith, row-applies 10 true [] refl, first-none (setRows p s) (row 10 true ∷ []) (set-numbered p s) e .1))
+
+no-length : (a b c : Bool) → b ≡ false → not (a && (b && c)) ≡ true
+no-length true b c e = rw e
+no-length false b c e = refl
+
+module _ (s : ParameterSet) (xs ns : List ℕ) where
+  abbrev rs : List Record
+  rs = listed ns
+
+  -- ---- a list that is not of whole records
+
+  abbrev late : List TableRow
+  late = row 11 (not (placesBelow (leafCount p s) rs)) ∷ notWords p (usedWords (s .«node_size») rs ++ xs) ∷ []
+
+  part-row : length ns % 7 ≢ 0 → firstRow (listedRows p s xs ns) ≡ partRow s
+  unfolding listedRows wholeRecords
+  part-row o =
+      ap (λ (b : Bool). firstRow (setRows p s ++ (row 10 b ∷ late))) (no-length (has xs (storeWords p s)) (wholeRecords ns) (fewRecords rs) (ne-eqb (length ns % 7) 0 o))
+      ∙ ap firstRow (sym (append-assoc (setRows p s) (row 10 true ∷ []) late))
+      ∙ first-front (setRows p s ++ (row 10 true ∷ [])) late (part-refused s)
+
+  pub part-is-refused : length ns % 7 ≢ 0 → (k : ℕ) → k ≡ partRow s → (refused k ≡ listedReply p s xs ns) × (xs ≡ listedPushed p s xs ns)
+  unfolding listedReply listedPushed
+  part-is-refused o k f =
+      refused-equations (listedRows p s xs ns) (pushing p s xs rs .made ∷ []) xs (pushing p s xs rs .store) k (f ∙ sym (part-row o)) (λ z. part-refused s (sym f ∙ z))
+
+  -- ---- a list of whole records
+
+  whole-rows : length ns % 7 ≡ 0 → pushRows p s xs rs ≡ listedRows p s xs ns
+  unfolding pushRows listedRows wholeRecords
+  whole-rows e = rw (eq-eqb (length ns % 7) 0 e)
+
+  pub whole-reply : length ns % 7 ≡ 0 → pushReply p s xs rs ≡ listedReply p s xs ns
+  unfolding pushReply listedReply
+  whole-reply e = ap (λ (rows : List TableRow). reply rows (pushing p s xs rs .made ∷ [])) (whole-rows e)
+
+  pub whole-pushed : length ns % 7 ≡ 0 → pushed p s xs rs ≡ listedPushed p s xs ns
+  unfolding pushed listedPushed
+  whole-pushed e = ap (λ a. after a xs (pushing p s xs rs .store)) (whole-reply e)
+
+  -- what it begins with, and what the passes ask
+  module _ (b : Tally) (begun : b ≡ beginOf p s xs (length ns / 7)) where
+    begun-tally : b ≡ beginOf p s xs (length rs)
+    begun-tally = begun ∙ ap (beginOf p s xs) (sym (listed-count ns))
+
+    begun-is : pass b xs ≡ begins s xs rs
+    begun-is = ap (λ (t : Tally). pass t xs) begun-tally
+
+    pub early-is-refused : length ns % 7 ≡ 0 → b .row ≢ 0 → (refused (b .row) ≡ listedReply p s xs ns) × (xs ≡ listedPushed p s xs ns)
+    early-is-refused w o =
+        let R = at-once s xs rs b begun-tally o in
+        (R .0 ∙ whole-reply w, R .1 ∙ whole-pushed w)
+
+    module _ (bytes : length ns * 8 < 2 ^ 63) where
+      record-bytes : length rs * 56 < 2 ^ 63
+      record-bytes = omega (arith, bytes, listed-count ns)
+
+      pub test-asks : Going p s xs b (length ns / 7)
+      test-asks = subst (Going p s xs b) (listed-count ns) (subst (λ (t : Tally). Going p s xs t (length rs)) (sym begun-tally) (first-asks s xs rs record-bytes))
+
+      pub write-asks : (t : Tally) (ys : List ℕ) → (t ≡ eachOf p s 0 rs (pass b xs) .tally) × (ys ≡ eachOf p s 0 rs (pass b xs) .store) → Going p s ys t (length ns / 7)
+      write-asks t ys e =
+          subst (Going p s ys t) (listed-count ns)
+          (second-asks s xs rs record-bytes t ys (e .0 ∙ ap (λ (u : Pass). eachOf p s 0 rs u .tally) begun-is) (e .1 ∙ ap (λ (u : Pass). eachOf p s 0 rs u .store) begun-is))
+
+    pub whole-is-pushed : length ns % 7 ≡ 0 → (t t′ : Tally) (ys zs : List ℕ)
+        → (t ≡ eachOf p s 0 rs (pass b xs) .tally) × (ys ≡ eachOf p s 0 rs (pass b xs) .store)
+        → (t′ ≡ eachOf p s 1 rs (pass t ys) .tally) × (zs ≡ eachOf p s 1 rs (pass t ys) .store)
+        → (r : Changed) → r ≡ finishOf t′ → (changedReply r ≡ listedReply p s xs ns) × (zs ≡ listedPushed p s xs ns)
+    whole-is-pushed w t t′ ys zs e f r g =
+        let tested : pass t ys ≡ eachOf p s 0 rs (begins s xs rs) = (λ i. pass (e .0 i) (e .1 i)) ∙ ap (eachOf p s 0 rs) begun-is in
+        let written : pass t′ zs ≡ eachOf p s 1 rs (eachOf p s 0 rs (begins s xs rs)) = (λ i. pass (f .0 i) (f .1 i)) ∙ ap (eachOf p s 1 rs) tested in
+        (ap changedReply (g ∙ ap (λ (u : Pass). finishOf (u .tally)) written) ∙ pushes s xs rs .0 ∙ whole-reply w, ap (λ (u : Pass). u .store) written ∙ pushes s xs rs .1 ∙ whole-pushed w)

@@ -1,0 +1,36 @@
+-- What a push replies and leaves, for any set, store and list of records.
+use mathlib.Core.Bool.{Bool, not, _&&_}
+use mathlib.Core.List.{List, [], _∷_, _++_}
+use Prim.Native.Nat.{ℕ, _^_}
+use lib.Dec.{leb}
+use lib.ListN.{length}
+use Rattle.refusals.specs.Table.{TableRow, row, notWords, Reply, reply, after}
+use Rattle.parameters.specs.declared.ParameterSet.{ParameterSet}
+use Rattle.parameters.specs.ParameterSet.{setRows}
+use Rattle.merkle.specs.Replacement.{Counted, push}
+use Rattle.trees.specs.SetTrees.{treeOf, leafCount, storeWords}
+use Rattle.tree_entries.specs.Trees.{has}
+use Rattle.pushes.specs.declared.record.Record.{Record}
+use Rattle.pushes.specs.Records.{changesOf, placesBelow, usedWords}
+
+-- "a push of over 2^32 records"
+abbrev pub fewRecords : List Record → Bool
+fewRecords rs = leb (length rs) (2 ^ 32)
+
+-- Row 12 covers "for a push every used record word and the whole store".
+unfoldable pub pushRows : ℕ → ParameterSet → List ℕ → List Record → List TableRow
+pushRows p s store rs =
+    setRows p s
+    ++ (row 10 (not (has store (storeWords p s) && fewRecords rs))
+    ∷ row 11 (not (placesBelow (leafCount p s) rs))
+    ∷ notWords p (usedWords (s .«node_size») rs ++ store) ∷ [])
+
+-- "Records are done in order"; "hand the count on from call to call, and report the last"
+abbrev pub pushing : ℕ → ParameterSet → List ℕ → List Record → Counted
+pushing p s store rs = push (treeOf p s) (s .height) (changesOf (s .«node_size») rs) store
+
+unfoldable pub pushReply : ℕ → ParameterSet → List ℕ → List Record → Reply
+pushReply p s store rs = reply (pushRows p s store rs) (pushing p s store rs .made ∷ [])
+
+unfoldable pub pushed : ℕ → ParameterSet → List ℕ → List Record → List ℕ
+pushed p s store rs = after (pushReply p s store rs) store (pushing p s store rs .store)

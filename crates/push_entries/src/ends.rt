@@ -1,0 +1,75 @@
+// Where a push begins and what it answers.
+ghost use mathlib.Core.Path.{_≡_};
+ghost use mathlib.Core.Bool.{true};
+ghost use mathlib.Core.List.{[], _∷_, _++_};
+ghost use Rattle.modular.specs.Goldilocks.{p};
+ghost use Rattle.refusals.specs.Table.{firstRow, row};
+ghost use Rattle.parameters.specs.ParameterSet.{setRows};
+ghost use Rattle.push_entries.specs.Ends.{beginOf, finishOf};
+use change_entries::Changed;
+use parameters::ParameterSet;
+use pushes::tally::Tally;
+use trees::sets;
+
+// A refusal by one of rows 1 to 10.
+fn turned_back(row: u8) -> Tally
+    ensures { λ r. ⌜ r ≡ record { row = row; places = 0; placed = true; words = true; made = 0 } ⌝ }
+{
+    Tally {
+        row: row,
+        places: 0,
+        placed: true,
+        words: true,
+        made: 0,
+    }
+}
+
+// Rows 1 to 10, and row 12 of the store.
+pub fn begin(set: ParameterSet, store: &[u64], count: usize) -> Tally
+    ensures { λ r. ⌜ r ≡ beginOf p set (now (store .entry)) count ⌝ }
+{
+    let row = state_entries::row_of(set);
+    if row != 0 {
+        return turned_back(row);
+    }
+    if store.len() != sets::store_words(set) {
+        return turned_back(10);
+    }
+    if 4294967296 < count {
+        return turned_back(10);
+    }
+    Tally {
+        row: 0,
+        places: sets::places(set) as u64,
+        placed: true,
+        words: parameters::all_words(store),
+        made: 0,
+    }
+}
+
+// The row of a list that is not of whole records: the set's, or else 10.
+pub fn row_of_part(set: ParameterSet) -> u8
+    ensures { λ r. ⌜ r ≡ firstRow (setRows p set ++ (row 10 true ∷ [])) ⌝ }
+{
+    let row = state_entries::row_of(set);
+    if row != 0 {
+        return row;
+    }
+    10
+}
+
+// The lowest row that applies, or the count.
+pub fn finish(tally: Tally) -> Changed
+    ensures { λ r. ⌜ r ≡ finishOf tally ⌝ }
+{
+    if tally.row != 0 {
+        return Changed::Refused(tally.row);
+    }
+    if !tally.placed {
+        return Changed::Refused(11);
+    }
+    if !tally.words {
+        return Changed::Refused(12);
+    }
+    Changed::Compressions(tally.made)
+}

@@ -1,0 +1,39 @@
+// Pushes of a slice of records, and of records that are handed in as numbers, seven for each: for callers that cannot lend such a slice.
+ghost use mathlib.Core.Path.{_≡_};
+ghost use Rattle.modular.specs.Goldilocks.{p};
+ghost use Rattle.change_entries.specs.Replacement.{changedReply};
+ghost use Rattle.push_entries.specs.Pushes.{pushReply, pushed};
+ghost use Rattle.push_entries.specs.Listed.{listedReply, listedPushed};
+use crate::ends;
+use change_entries::Changed;
+use parameters::ParameterSet;
+use pushes::Record;
+use pushes::passes;
+
+// All records are tested, then all are written, in order; or none is.
+pub fn push(set: ParameterSet, store: &mut [u64], records: &[Record]) -> Changed
+    ensures { λ r. ⌜ (changedReply r ≡ pushReply p set (now (store .entry)) (now (records .entry)))
+        × (now (store .exit) ≡ pushed p set (now (store .entry)) (now (records .entry))) ⌝ }
+{
+    let begun = ends::begin(set, store, records.len());
+    let tested = passes::each(set, store, records, passes::TEST, begun);
+    let written = passes::each(set, store, records, passes::WRITE, tested);
+    ends::finish(written)
+}
+
+// The same of the records of a list of numbers.
+pub fn push_listed(set: ParameterSet, store: &mut [u64], numbers: &[u64]) -> Changed
+    ensures { λ r. ⌜ (changedReply r ≡ listedReply p set (now (store .entry)) (now (numbers .entry)))
+        × (now (store .exit) ≡ listedPushed p set (now (store .entry)) (now (numbers .entry))) ⌝ }
+{
+    if numbers.len() % 7 != 0 {
+        return Changed::Refused(ends::row_of_part(set));
+    }
+    let begun = ends::begin(set, store, numbers.len() / 7);
+    if begun.row != 0 {
+        return Changed::Refused(begun.row);
+    }
+    let tested = passes::each_listed(set, store, numbers, passes::TEST, begun);
+    let written = passes::each_listed(set, store, numbers, passes::WRITE, tested);
+    ends::finish(written)
+}

@@ -1,0 +1,32 @@
+-- Replacement records.
+use mathlib.Core.Path.{_≡_}
+use mathlib.Core.Bool.{Bool, true, _&&_}
+use mathlib.Core.List.{List, [], _∷_, _++_}
+use Prim.Native.Nat.{ℕ}
+use lib.Dec.{ltb}
+use lib.ListN.{length, take}
+use Rattle.merkle.specs.Replacement.{Change}
+use Rattle.pushes.specs.declared.record.Record.{Record}
+
+-- "each a place and six words, of which the first l are the leaf"
+abbrev pub leafOf : ℕ → Record → List ℕ
+leafOf l r = take l (r .words)
+
+unfoldable pub changesOf : ℕ → List Record → List Change
+changesOf l [] = []
+changesOf l (r ∷ rs) = record { place = r .place; leaf = leafOf l r } ∷ changesOf l rs
+
+-- "11 | a place not below k^h": every record's place is below n
+unfoldable pub placesBelow : ℕ → List Record → Bool
+placesBelow n [] = true
+placesBelow n (r ∷ rs) = ltb (r .place) n && placesBelow n rs
+
+-- "every used record word"
+unfoldable pub usedWords : ℕ → List Record → List ℕ
+usedWords l [] = []
+usedWords l (r ∷ rs) = leafOf l r ++ usedWords l rs
+
+-- What the type of a record says of its words: there are six, [u64; 6].
+abbrev pub SixWords : List Record → Type 0
+SixWords [] = Unit {0}
+SixWords (r ∷ rs) = (length (r .words) ≡ 6) × SixWords rs
