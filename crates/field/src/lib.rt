@@ -1,4 +1,4 @@
-// The field of p = 2^64 - 2^32 + 1 on words, the numbers below p. The fast path's numbers are in `lazy`.
+// The field of p = 2^64 - 2^32 + 1 on words, the numbers below p (Rules 1). The fast path's numbers are in `lazy`.
 pub mod lazy;
 
 ghost use mathlib.Core.Path.{_≡_};

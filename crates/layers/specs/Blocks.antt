@@ -1,4 +1,4 @@
--- "A state of twelve is three blocks of four": a state in code is an array of blocks, and here the list of its numbers.
+-- The blocks of a state (Rules 3.1): in code it is an array of them, and here the list of its numbers.
 use mathlib.Core.List.{List, [], _∷_, _++_}
 use Prim.Native.Nat.{ℕ, zero, suc}
 use lib.ListN.{getD}

@@ -1,4 +1,4 @@
-// The pieces of Poseidon2's rounds on lazy numbers, one function for each width. A state of twelve is three blocks of four by value.
+// The pieces of Poseidon2's rounds (Rules 3) on lazy numbers, one function for each width. A state is its blocks, by value.
 pub mod external;
 pub mod full;
 pub mod partial;

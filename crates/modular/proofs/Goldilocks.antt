@@ -20,7 +20,7 @@ goldilocks = record {
 pub goldilocks-laws : PrimeLaws p goldilocks
 goldilocks-laws = prime-laws p goldilocks
 
--- "y to the power 10540996611094048183"
+-- the seventh root is a power (Rules 7.1)
 pub seventh-root-power : (y : ℕ) → y < p → seventhRoot p y ≡ pow p y rootExponent
 unfolding goldilocks
 seventh-root-power y h = goldilocks-laws .seventhRoots .power y h

@@ -1,10 +1,10 @@
--- Document 01, "Field": arithmetic modulo p, for any p. A number is any natural number; a word is a number below p.
+-- Arithmetic modulo p, for any p (Rules 1.2 to 1.5, 7.1). A number is any natural number; a word is a number below p.
 use mathlib.Core.Bool.{Bool, true, cond, _&&_}
 use mathlib.Core.List.{List, [], _∷_}
 use Prim.Native.Nat.{ℕ, zero, suc, _+_, _*_, _-_, _%_, _^_}
 use lib.Dec.{ltb, eqb}
 
--- "Only 0 to p - 1 is a word; p itself is not another zero."
+-- p and the numbers above it are no words (Rules 1.2).
 unfoldable pub isWord : ℕ → ℕ → Bool
 isWord p a = ltb a p
 
@@ -13,7 +13,7 @@ unfolding isWord
 allWords p [] = true
 allWords p (a ∷ xs) = isWord p a && allWords p xs
 
--- "Sum, difference, product and power are taken modulo p."
+-- Sum, difference and product are those of the integers, modulo p (Rules 1.3).
 unfoldable pub add : ℕ → ℕ → ℕ → ℕ
 add p a b = (a + b) % p
 
@@ -24,7 +24,7 @@ sub p a b = (a + (p - b % p)) % p
 unfoldable pub mul : ℕ → ℕ → ℕ → ℕ
 mul p a b = a * b % p
 
--- "An exponent is any 64-bit number, and 0 to the power 0 is 1", as it is of natural numbers.
+-- The power, for any exponent. As of natural numbers, the exponent 0 gives 1, for the base 0 too (Rules 1.4).
 unfoldable pub pow : ℕ → ℕ → ℕ → ℕ
 pow p a e = a ^ e % p
 
@@ -33,10 +33,10 @@ unfoldable pub seek : (ℕ → Bool) → ℕ → ℕ → ℕ
 seek test i zero = 0
 seek test i (suc n) = cond (test i) i (seek test (suc i) n)
 
--- "The inverse of a non-zero word is the word whose product with it is 1." Of 0 there is none, and this is 0.
+-- The word y with x * y = 1 modulo p (Rules 1.5). 0 has none, and this is 0.
 unfoldable pub inverse : ℕ → ℕ → ℕ
 inverse p x = seek (λ y. eqb (mul p x y) 1) 0 p
 
--- "The seventh root of a word y is the word whose 7th power is y."
+-- The word x with x ^ 7 = y modulo p (Rules 7.1).
 unfoldable pub seventhRoot : ℕ → ℕ → ℕ
 seventhRoot p y = seek (λ x. eqb (pow p x 7) y) 0 p

@@ -1,4 +1,4 @@
--- Congruence modulo p. The fast path's numbers are any of 64 bits, and its contracts say what they are congruent to.
+-- Congruence modulo p (Rules 1.6). The fast path's numbers are any of 64 bits, and its contracts say what they are congruent to.
 use mathlib.Core.Path.{_≡_}
 use Prim.Native.Nat.{ℕ, _%_}
 

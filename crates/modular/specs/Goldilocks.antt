@@ -1,8 +1,8 @@
--- The prime in use, with the numbers of its certificate.
+-- The prime in use, with the numbers of its certificate (Rules 1.1, 1.7).
 use mathlib.Core.List.{List, [], _∷_}
 use Prim.Native.Nat.{ℕ}
 
--- "p = 18446744069414584321", 2 ^ 64 - 2 ^ 32 + 1
+-- 2 ^ 64 - 2 ^ 32 + 1
 abbrev pub p : ℕ
 p = 18446744069414584321
 
@@ -13,6 +13,6 @@ primitiveRoot = 7
 abbrev pub factors : List ℕ
 factors = 2 ∷ 3 ∷ 5 ∷ 17 ∷ 257 ∷ 65537 ∷ []
 
--- "y to the power 10540996611094048183" is the seventh root of y
+-- the power that the seventh root is (Rules 7.1)
 abbrev pub rootExponent : ℕ
 rootExponent = 10540996611094048183

@@ -1,4 +1,4 @@
--- What is used of a prime, as a record, and what is claimed of every prime of the record. A second prime is a second instance.
+-- What is used of a prime, as a record (Rules 1.7), and what is claimed of every prime of the record. A second prime is a second instance.
 use mathlib.Core.Path.{_≡_}
 use mathlib.Core.Logic.{_⊎_}
 use mathlib.Core.List.{List}

@@ -1,5 +1,5 @@
--- Document 01, "Beside it": "The inverse permutation returns the state whose permutation is given." Each step undoes one of the
--- permutation's, the last first. That they do is claimed in Statements.
+-- The inverse permutation (Rules 7.2, 7.3). Each step undoes one of the permutation's, the last first. That they do is claimed in
+-- Statements.
 use mathlib.Core.List.{List, [], _∷_, map}
 use Prim.Native.Nat.{ℕ, zero, suc, _+_, _*_, _-_, _%_}
 use lib.ListN.{length, getD, take, drop}

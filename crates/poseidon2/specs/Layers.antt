@@ -1,4 +1,4 @@
--- Document 01, "Permutation": the two linear layers, for any p. A state is a list of t numbers, 4, 8 or 12.
+-- The two linear layers (Rules 3.1 to 3.4), for any p. A state is a list of t numbers, 4, 8 or 12.
 use mathlib.Core.List.{List, [], _∷_, _++_, map}
 use Prim.Native.Nat.{ℕ, _+_, _*_, _%_}
 use lib.ListN.{getD, drop}
@@ -23,7 +23,7 @@ unfoldable pub rowsTimes : ℕ → List (List ℕ) → List ℕ → List ℕ
 rowsTimes p [] xs = []
 rowsTimes p (row ∷ rows) xs = dot row xs % p ∷ rowsTimes p rows xs
 
--- "M4 has the rows (5 7 1 3), (4 6 1 1), (1 3 5 7), (1 1 4 6)."
+-- M4, by its rows (Rules 3.2).
 unfoldable pub m4Rows : List (List ℕ)
 m4Rows =
     (5 ∷ 7 ∷ 1 ∷ 3 ∷ []) ∷
@@ -34,7 +34,7 @@ m4Rows =
 unfoldable pub m4 : ℕ → List ℕ → List ℕ
 m4 p block = rowsTimes p m4Rows block
 
--- "A state of twelve is three blocks of four." Fewer than four numbers are no block.
+-- The blocks of a state (Rules 3.1). Fewer than four numbers are no block.
 unfoldable pub blocks : List ℕ → List (List ℕ)
 blocks [] = []
 blocks (a ∷ []) = []
@@ -46,7 +46,7 @@ unfoldable pub joinBlocks : List (List ℕ) → List ℕ
 joinBlocks [] = []
 joinBlocks (b ∷ bs) = b ++ joinBlocks bs
 
--- "The sum of all resulting blocks", word by word.
+-- Blocks summed word by word.
 unfoldable pub sumBlocks : ℕ → List (List ℕ) → List ℕ
 sumBlocks p [] = 0 ∷ 0 ∷ 0 ∷ 0 ∷ []
 sumBlocks p (b ∷ bs) = addLists p b (sumBlocks p bs)
@@ -55,21 +55,21 @@ unfoldable pub addToEach : ℕ → List ℕ → List (List ℕ) → List (List �
 addToEach p s [] = []
 addToEach p s (b ∷ bs) = addLists p b s ∷ addToEach p s bs
 
--- "Add to each block the sum of all resulting blocks (its own counts twice)"; a block alone stays.
+-- Two blocks or more each get the sum of all added; a block alone stays.
 unfoldable pub mixed : ℕ → List (List ℕ) → List (List ℕ)
 mixed p [] = []
 mixed p (b ∷ []) = b ∷ []
 mixed p (b ∷ c ∷ bs) = addToEach p (sumBlocks p (b ∷ c ∷ bs)) (b ∷ c ∷ bs)
 
--- "M_E: for t = 4 it is M4. For 8 and 12, apply M4 to each block, then add to each block the sum of all."
+-- M_E: M4 in each block, then the blocks mixed; a single block gets M4 alone and not twice (Rules 3.3).
 unfoldable pub external : ℕ → List ℕ → List ℕ
 external p xs = joinBlocks (mixed p (map (m4 p) (blocks xs)))
 
--- s plus D_i times word i, for each word. A D_i that the list lacks counts as 0, and one beyond the words isn't read.
+-- For each word, s and D_i times the word. A D_i that the list lacks counts as 0, and one beyond the words is not read.
 unfoldable pub plusMultiples : ℕ → ℕ → List ℕ → List ℕ → List ℕ
 plusMultiples p s D [] = []
 plusMultiples p s D (x ∷ xs) = (s + getD D 0 0 * x) % p ∷ plusMultiples p s (drop 1 D) xs
 
--- "M_I: word i becomes the sum of all words plus D_i times word i. So D is the diagonal less one."
+-- M_I: each word times its D_i, and the sum of the words added to each; so the diagonal of the matrix has D_i + 1 (Rules 3.4).
 unfoldable pub internal : ℕ → List ℕ → List ℕ → List ℕ
 internal p D xs = plusMultiples p (sum xs) D xs

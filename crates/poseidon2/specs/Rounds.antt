@@ -1,4 +1,4 @@
--- Document 01, "Permutation": the rounds and their order, for any p and any numbers of rounds.
+-- The rounds and their order (Rules 3.5 to 3.8), for any p and any numbers of rounds.
 use mathlib.Core.List.{List, [], _∷_, map}
 use Prim.Native.Nat.{ℕ, zero, suc, _+_, _*_}
 use lib.ListN.{length, getD, take, drop}
@@ -11,16 +11,16 @@ addConstants p cs xs = addLists p xs cs
 unfoldable pub seventhPowers : ℕ → List ℕ → List ℕ
 seventhPowers p xs = map (λ x. pow p x 7) xs
 
--- "Full round: add t constants, raise every word to the 7th power, apply M_E."
+-- A full round: constants, the power 7 of every word, M_E (Rules 3.5).
 unfoldable pub fullRound : ℕ → List ℕ → List ℕ → List ℕ
 fullRound p cs xs = external p (seventhPowers p (addConstants p cs xs))
 
--- "Add one constant to word 0, raise word 0 alone."
+-- Word 0 with its constant, to the power 7; the others stay.
 unfoldable pub raiseFirst : ℕ → ℕ → List ℕ → List ℕ
 raiseFirst p c [] = []
 raiseFirst p c (x ∷ xs) = pow p (add p x c) 7 ∷ xs
 
--- "Partial round: add one constant to word 0, raise word 0 alone, apply M_I."
+-- A partial round: that, then M_I (Rules 3.6).
 unfoldable pub partialRound : ℕ → List ℕ → ℕ → List ℕ → List ℕ
 partialRound p D c xs = internal p D (raiseFirst p c xs)
 
@@ -34,8 +34,8 @@ unfoldable pub partialRounds : ℕ → List ℕ → ℕ → List ℕ → List �
 partialRounds p D zero cs xs = xs
 partialRounds p D (suc n) cs xs = partialRounds p D n (drop 1 cs) (partialRound p D (getD cs 0 0) xs)
 
--- "Order: M_E; R_F/2 full; R_P partial; R_F/2 full", at width t; `half` is R_F/2. C is "the first half of the full rounds, t each; the
--- partial rounds, one each; the second half". Places of D and C beyond the used ones aren't read.
+-- M_E, `half` full rounds, rp partial rounds, `half` full rounds again, at width t; `half` is R_F/2 (Rules 3.7). They take their constants
+-- from C in this order (Rules 3.8). What D and C have after the used words is not read.
 unfoldable pub permuteAt : ℕ → ℕ → ℕ → ℕ → List ℕ → List ℕ → List ℕ → List ℕ
 permuteAt p t half rp D C xs =
     fullRounds p t half (drop (t * half + rp) C)

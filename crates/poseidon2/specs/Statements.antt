@@ -11,7 +11,7 @@ use Rattle.poseidon2.specs.Compression.{compress}
 use Rattle.poseidon2.specs.Residues.{residues}
 use Rattle.poseidon2.specs.Inverse.{inverses, unexternal, uninternal, unpermute}
 
--- "Width t is 4, 8 or 12."
+-- The widths that a set may have (Rules 2.1).
 abbrev pub Width : ℕ → Type 0
 Width t = (t ≡ 4) ⊎ ((t ≡ 8) ⊎ (t ≡ 12))
 
@@ -19,12 +19,12 @@ Width t = (t ≡ 4) ⊎ ((t ≡ 8) ⊎ (t ≡ 12))
 pub record Words (p : ℕ) (xs : List ℕ) : Type 0 where
   pub at : (i : ℕ) → getD xs i 0 < p
 
--- "States have t words."
+-- A state (Rules 3.1).
 pub record State (p t : ℕ) (xs : List ℕ) : Type 0 where
   pub width : length xs ≡ t
   pub words : Words p xs
 
--- What the table's rows 7 to 9 leave: D is t words, none of them 0, and 1 plus the inverses of all is not 0.
+-- What refusals 7 to 9 leave (Rules 2.3): D is t words, none of them 0, and 1 and their inverses do not add up to 0.
 pub record AcceptedDiagonal (p t : ℕ) (D : List ℕ) : Type 0 where
   pub width : length D ≡ t
   pub words : Words p D

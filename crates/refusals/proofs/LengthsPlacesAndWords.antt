@@ -24,7 +24,7 @@ module _ (p : ℕ) (rows : List TableRow) (N : Numbered rows) (badLength badPlac
   pub at-11 : firstRow rows ≡ 0 → badLength ≡ false → badPlace ≡ true → firstRow all ≡ 11
   at-11 z e f = first-back rows _ N z ∙ row-passes 10 badLength _ e ∙ row-applies 11 badPlace _ f
 
-  -- where lengths and place are right, row 12 decides
+  -- where lengths and place are right, 12 decides
   pub at-words : firstRow rows ≡ 0 → badLength ≡ false → badPlace ≡ false → firstRow all ≡ firstRow (notWords p xs ∷ [])
   at-words z e f = first-back rows _ N z ∙ row-passes 10 badLength _ e ∙ row-passes 11 badPlace _ f
 
@@ -44,7 +44,7 @@ module _ (p : ℕ) (rows : List TableRow) (N : Numbered rows) (badLength badPlac
       let words = row-none 11 (not (allWords p xs)) _ (place .1) in
       record { before = front .0; lengths = lengths .0; place = place .0; words = not-false (allWords p xs) (words .0) }
 
--- row 12 alone
+-- 12 alone
 pub twelve : (p : ℕ) (xs : List ℕ) → allWords p xs ≡ false → firstRow (notWords p xs ∷ []) ≡ 12
 unfolding notWords
 twelve p xs w = row-applies 12 (not (allWords p xs)) [] (ap not w)

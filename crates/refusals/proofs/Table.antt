@@ -50,7 +50,7 @@ first-front (r ∷ rows) more o = at (r .applies) (first-front rows more) o
     at true ih o = refl
     at false ih o = ih o
 
--- Every row of the table has a number above 0.
+-- Every refusal of the list has a number above 0.
 pub data Numbered : List TableRow → Type 0 where
   none : Numbered []
   next : {r : TableRow} {rows : List TableRow} → 0 < r .number → Numbered rows → Numbered (r ∷ rows)

@@ -1,2 +1,2 @@
--- The table of refusals and what an entry replies.
+-- Refusals and what an entry replies.
 pub mod Table

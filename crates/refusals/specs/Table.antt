@@ -1,11 +1,11 @@
--- Document 01, "Turned back": rows of a table, each a number and a condition. "The lowest number that applies is given; if none
--- applies the work is done." An entry's rows are a list in the order in which they are tested.
+-- Refusals, each a number and a condition (Rules 8). Those of an entry are a list in the order in which it tests them: it answers the
+-- first whose condition holds, and if there is none it does its work.
 use mathlib.Core.Bool.{Bool, cond, not}
 use mathlib.Core.List.{List, [], _∷_}
 use Prim.Native.Nat.{ℕ}
 use Rattle.modular.specs.Arithmetic.{allWords}
 
--- A row of the table at hand: its number, and whether its condition holds.
+-- A refusal as an entry tests it: its number, and whether its condition holds.
 pub record TableRow : Type 0 where
   pub number : ℕ
   pub applies : Bool
@@ -13,26 +13,26 @@ pub record TableRow : Type 0 where
 abbrev pub row : ℕ → Bool → TableRow
 row n b = record { number = n; applies = b }
 
--- "12 | a number handed in not a word"
+-- 12: one of these numbers is not a word (Rules 8.1).
 unfoldable pub notWords : ℕ → List ℕ → TableRow
 notWords p xs = row 12 (not (allWords p xs))
 
--- The number of the first row that applies, and 0 where none does.
+-- The number of the first that applies, and 0 where none does (Rules 8.2).
 unfoldable pub firstRow : List TableRow → ℕ
 firstRow [] = 0
 firstRow (r ∷ rs) = cond (r .applies) (r .number) (firstRow rs)
 
--- What an entry replies: the number of a row, or the numbers that are its result.
+-- What an entry replies: a refusal's number, or the numbers that are its result (Rules 8.5).
 pub data Reply : Type 0 where
   refused : ℕ → Reply
   done : List ℕ → Reply
 
--- The reply by an entry's rows: the first that applies, or the result.
+-- The reply by an entry's refusals: the first that applies, or the result.
 unfoldable pub reply : List TableRow → List ℕ → Reply
 reply [] result = done result
 reply (r ∷ rs) result = cond (r .applies) (refused (r .number)) (reply rs result)
 
--- "After a number every lent buffer keeps its contents": what a buffer holds after a reply, of what it held and what the work writes.
+-- What a buffer holds after a reply, of what it held and what the work writes: after a refusal it is as it was (Rules 8.3).
 unfoldable pub after : Reply → List ℕ → List ℕ → List ℕ
 after (refused n) old new = old
 after (done result) old new = new

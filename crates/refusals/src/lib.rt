@@ -1,1 +1,1 @@
-// Mathematics only: the table of refusals and what an entry replies. The definitions stand in specs/.
+// Mathematics only: refusals and what an entry replies. The definitions stand in specs/.
