@@ -38,7 +38,7 @@ words-end xs ys e = go (allWords p xs) refl
     go true f = words-append p xs ys f e ∙ sym f
     go false f = three.left-not-words p xs ys f ∙ sym f
 
--- so a store of the right length that holds words leaves an entry's rows to the call's other arguments
+-- so with a store of words, of the right length, only a call's other arguments can be refused
 without-store : (front : List TableRow) (long rest : Bool) (place : TableRow) (xs ys : List ℕ) → long ≡ true → allWords p ys ≡ true
     → front ++ (row 10 (not (long && rest)) ∷ place ∷ notWords p (xs ++ ys) ∷ []) ≡ front ++ (row 10 (not rest) ∷ place ∷ notWords p xs ∷ [])
 unfolding notWords
@@ -53,7 +53,7 @@ pub record Follows (s : ParameterSet) (c : Call) (xs : List ℕ) : Type 0 where
   pub leaves : Leaves s (bookAfter p s c xs)
 
 module _ (s : ParameterSet) (valid : firstRow (setRows p s) ≡ 0) where
-  -- an entry whose rows are the set's and then the book's
+  -- an entry whose refusals are the set's and then the book's
   module _ (c : Call) (xs : List ℕ) (L : Leaves s xs) where
     agreed : (rows : List TableRow) (made : ℕ) → rows ≡ setRows p s ++ bookRows p s c → (firstRow (bookRows p s c) ≡ 0 → made ≡ bookCount p s c)
         → reply rows (made ∷ []) ≡ bookReply p s c

@@ -1,4 +1,4 @@
--- The extractor gives a collision where, and only where, the first leaf is accepted too.
+-- Extraction gives a collision where, and only where, the first leaf is accepted too.
 use mathlib.Core.Path.{_≡_}
 use mathlib.Core.Logic.{_≢_, _↔_}
 use mathlib.Core.Bool.{Bool}
@@ -31,7 +31,7 @@ module _ (s : ParameterSet) (valid : firstRow (setRows p s) ≡ 0) (top : List �
   abbrev other : Bool
   other = accepts (treeOf p s) (s .height) top q b y
 
-  -- no row applied: the first leaf is accepted
+  -- nothing was refused: the first leaf is accepted
   answered-offered : (result : List ℕ) → extractReply p s two first second ≡ done result → Offered s top q a x
   unfolding extractReply bothAccepted
   answered-offered result e =

@@ -1,4 +1,4 @@
--- Replies taken apart, and two entries whose rows are the same but for front rows that do not apply.
+-- Replies taken apart, and two entries whose refusals are the same but for some in front that do not apply.
 use mathlib.Core.Path.{_≡_, refl, sym, ap, subst, _∙_}
 use mathlib.Core.List.{List, [], _++_}
 use Prim.Native.Nat.{ℕ, zero, suc}
@@ -18,7 +18,7 @@ pub no-row : firstRow [] ≡ 0
 unfolding firstRow
 no-row = refl
 
--- a reply that is a result: no row applied
+-- a reply that is a result: nothing was refused
 pub reply-none : (rows : List TableRow) (result xs : List ℕ) → reply rows result ≡ done xs → firstRow rows ≡ 0
 reply-none rows result xs e = go (firstRow rows) refl
   where
@@ -29,7 +29,7 @@ reply-none rows result xs e = go (firstRow rows) refl
 pub reply-result : (rows : List TableRow) (result xs : List ℕ) → Numbered rows → reply rows result ≡ done xs → result ≡ xs
 reply-result rows result xs N e = ap resultOf (sym (reply-done rows result N (reply-none rows result xs e)) ∙ e)
 
--- front rows that do not apply, and results that are the same where no row applies
+-- refusals in front that do not apply, and results that are the same where none applies
 pub same-reply : (front rows : List TableRow) (a b : List ℕ) → Numbered front → firstRow front ≡ 0 → Numbered rows → Numbered (front ++ rows)
     → (firstRow rows ≡ 0 → a ≡ b) → reply (front ++ rows) a ≡ reply rows b
 same-reply front rows a b N e M O f = go (firstRow rows) refl
@@ -41,7 +41,7 @@ same-reply front rows a b N e M O f = go (firstRow rows) refl
         ∙ ap refused (first-back front rows N e)
         ∙ sym (reply-refused rows b (λ w. absurd (omega arith)))
 
--- what holds of what was and, where no row applies, of what is new, holds after the reply
+-- what holds of what was and, where nothing is refused, of what is new, holds after the reply
 pub after-holds : (P : List ℕ → Type 0) (rows : List TableRow) (result old new : List ℕ) → Numbered rows
     → P old → (firstRow rows ≡ 0 → P new) → P (after (reply rows result) old new)
 after-holds P rows result old new N o f = go (firstRow rows) refl

@@ -1,4 +1,4 @@
--- The tree of a set that no row turns down, and the leaves of a book: k^h leaves of words.
+-- The tree of a set that is not refused, and the leaves of a book: k^h leaves of words.
 use mathlib.Core.Path.{_≡_, sym, ap}
 use mathlib.Core.Bool.{true, not, _&&_}
 use mathlib.Core.List.{List, []}
@@ -29,7 +29,7 @@ use Rattle.history.specs.LeafBook.{leafAt}
 use Rattle.history.proofs.Replies.{reply-none}
 
 module _ (s : ParameterSet) (valid : firstRow (setRows p s) ≡ 0) where
-  -- "each a place and six words, of which the first l are the leaf"
+  -- a leaf has room in a record (Rules 5.3)
   pub six : s .«node_size» ≤ 6
   six = node-small (valid-numbers s valid)
 
@@ -48,7 +48,7 @@ pub record Leaves (s : ParameterSet) (xs : List ℕ) : Type 0 where
   pub long : length xs ≡ leafWords p s
   pub wordy : allWords p xs ≡ true
 
--- a store that building wrote with no number returned
+-- the store that building wrote, where it was not refused
 pub record Begun (s : ParameterSet) (leaves store : List ℕ) : Type 0 where
   pub set : firstRow (setRows p s) ≡ 0
   pub given : Leaves s leaves

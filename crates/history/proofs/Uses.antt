@@ -41,7 +41,7 @@ root-of-book s leaves lent e calls T =
     let B = begun s (bookLeaves p s calls leaves) (zeros (storeWords p s)) (written .0) in
     ap (rootOf s) (written .1 ∙ B .written) ∙ sym (laws s (B .set) .storeless .agrees (s .height) (bookLeaves p s calls leaves) (B .given .long))
 
--- what the book answers where no row applies
+-- what the book answers where it refuses nothing
 counted : (s : ParameterSet) (c : Call) → firstRow (bookRows p s c) ≡ 0 → bookReply p s c ≡ done (bookCount p s c ∷ [])
 unfolding bookReply
 counted s c z = reply-done (bookRows p s c) (bookCount p s c ∷ []) (book-numbered s c) z
@@ -63,7 +63,7 @@ own-accepted s leaves lent e calls T q inside buffer long =
     ap (λ (top : List ℕ). verifyReply p s top q (leafAt s q (bookLeaves p s calls leaves)) (opened p s (run p s calls (built p s leaves lent) .store) q buffer)) (sym (root-of-book s leaves lent e calls T))
     ∙ demand3 s leaves lent e calls T .own q inside buffer long .1
 
--- what the extractor writes where it answers a level
+-- what extraction writes where it answers a level
 rows-of : (s : ParameterSet) (two : Pair) (first second : List ℕ) {result : List ℕ} → extractReply p s two first second ≡ done result
     → IsRow s (extractedFirst p s two first second) × IsRow s (extractedSecond p s two first second)
 unfolding extractReply

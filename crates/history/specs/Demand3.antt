@@ -1,4 +1,4 @@
--- Demand 3, "a single claim about the whole list, and not one for each call".
+-- Demand 3, the history theorem (Rules 6.7): one statement about a whole list of calls.
 use mathlib.Core.Path.{_≡_}
 use mathlib.Core.Logic.{_≢_, _↔_}
 use mathlib.Core.List.{List, [], _∷_}
@@ -22,26 +22,23 @@ Typed [] = Unit {0}
 Typed (replacement q leaf ∷ cs) = Typed cs
 Typed (push rs ∷ cs) = SixWords rs × Typed cs
 
--- "the store's last l words as root"
+-- the root that a store has
 abbrev pub rootOf : ParameterSet → List ℕ → List ℕ
 rootOf s store = root (treeOf p s) store
 
 -- What holds after a list of calls, of the store and the answers that it left and of the book's leaves and answers.
 pub record Faithful (s : ParameterSet) (left : Ran) (book : List ℕ) (answers : List Reply) : Type 0 where
-  -- "After the list the store equals, word for word, the one that building writes from the book's leaves under that set",
-  -- into any store that it is lent,
+  -- Building from the book's leaves, into any buffer of the exact length, is not refused and writes the store that was left.
   pub stored : (lent : List ℕ) → length lent ≡ storeWords p s
       → (buildReply p s book lent ≡ done []) × (left .store ≡ built p s book lent)
-  -- "and the calls' answers equal the book's, in order."
+  -- The answers are the book's, in order.
   pub answered : left .answers ≡ answers
-  -- "A place's own opening is what the opening entry writes for it to a buffer of the exact length; the verdict on the book's leaf with
-  -- it, under the store's last l words, is accepted."
+  -- For every place the opening is written, and with it the book's leaf is accepted under the store's root.
   pub own : (q : ℕ) → q < leafCount p s → (buffer : List ℕ) → length buffer ≡ openingWords p s
       → (openReply p s (left .store) q buffer ≡ done [])
       × (verifyReply p s (rootOf s (left .store)) q (leafAt s q book) (opened p s (left .store) q buffer) ≡ done (1 ∷ []))
-  -- "Another leaf is one that differs from the book's at that place." With any siblings it is accepted exactly where the extractor gives a
-  -- collision: "The extractor gets that set, the store's last l words as root, and the place; the other leaf with the offered siblings
-  -- first, the place's own leaf and opening second; and two buffers of t words."
+  -- Any list of numbers but the book's leaf is accepted, with any siblings, exactly where extraction gives a collision: it is handed that list
+  -- with its siblings first, and the book's leaf with the opening of the place second.
   pub other : (q : ℕ) → q < leafCount p s → (buffer : List ℕ) → length buffer ≡ openingWords p s
       → (leaf siblings : List ℕ)
       → leaf ≢ leafAt s q book
@@ -51,8 +48,7 @@ pub record Faithful (s : ParameterSet) (left : Ran) (book : List ℕ) (answers :
       (pair (rootOf s (left .store)) q leaf siblings (leafAt s q book) (opened p s (left .store) q buffer))
       first second
 
--- "Demand 3 begins with a store that building wrote under one set, with no number returned, from the leaves it was handed." That no number
--- was returned says that no row turns down the set, the leaves or the lent store.
+-- For every set, leaves and buffer with which building is not refused (Rules 6.1), and every list of calls.
 abbrev pub Demand3 : Type 0
 Demand3 =
     (s : ParameterSet) (leaves lent : List ℕ) → buildReply p s leaves lent ≡ done []

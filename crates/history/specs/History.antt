@@ -1,5 +1,5 @@
--- A list of calls on one store: "Each call of the list is handed that same set, and the store as building or the call before left it; its
--- other arguments are free." What a call answers and leaves is what its entry's contract says.
+-- A list of calls on one store (Rules 6.1, 6.2): all under one set, and each on what the one before left. What a call answers and leaves
+-- is what its entry's contract says.
 use mathlib.Core.List.{List, [], _∷_}
 use Prim.Native.Nat.{ℕ}
 use Rattle.refusals.specs.Table.{Reply}

@@ -1,4 +1,4 @@
--- The book's leaves said in another way: each is the last one accepted for its place, or else the one handed to building.
+-- The book's leaves said in another way (Rules 6.6): each is the last one accepted for its place, or else the one handed to building.
 use mathlib.Core.Path.{_≡_}
 use mathlib.Core.Bool.{cond}
 use mathlib.Core.List.{List, [], _∷_, _++_}
@@ -36,7 +36,7 @@ lastFor q given [] = given
 lastFor q given (c ∷ cs) = lastFor q (cond (eqb (c .place) q) (c .leaf) given) cs
 
 pub record IsLatest (s : ParameterSet) (leaves book : List ℕ) (changes : List Change) : Type 0 where
-  -- "holds k^h leaves and nothing else"
+  -- all leaves are there, and no more
   pub whole : length book ≡ leafWords p s
   pub each : (q : ℕ) → q < leafCount p s → leafAt s q book ≡ lastFor q (leafAt s q leaves) changes
 

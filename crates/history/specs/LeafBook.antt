@@ -1,5 +1,4 @@
--- Document 01, "Leaf book": "The book that demand 3 compares with holds k^h leaves and nothing else. It starts as the leaves handed to
--- building." It is the flat list of these leaves, l numbers each.
+-- The leaf book (Rules 6.3 to 6.6), with which demand 3 compares a store and the answers. It is the flat list of its leaves, l numbers each.
 use mathlib.Core.Bool.{not}
 use mathlib.Core.List.{List, [], _∷_}
 use Prim.Native.Nat.{ℕ, _*_}
@@ -19,24 +18,22 @@ pub data Call : Type 0 where
   replacement : ℕ → List ℕ → Call
   push : List Record → Call
 
--- the leaf at a place, and a leaf that "goes to its place"
+-- the leaf at a place, and a leaf entered there
 abbrev pub leafAt : ParameterSet → ℕ → List ℕ → List ℕ
 leafAt s q book = part (q * s .«node_size») (s .«node_size») book
 
 abbrev pub enter : ParameterSet → ℕ → List ℕ → List ℕ → List ℕ
 enter s q leaf book = put book (q * s .«node_size») leaf
 
--- "each record's leaf goes to its place, in order"
+-- the leaves of a list of records entered, one after another
 unfoldable pub enterAll : ParameterSet → List Record → List ℕ → List ℕ
 enterAll s [] book = book
 enterAll s (r ∷ rs) book = enterAll s rs (enter s (r .place) (leafOf (s .«node_size») r) book)
 
--- "It is fed the set's numbers and each call's other arguments, never the store or a call's answer." Of the set it reads l, k^h and h.
+-- Nothing here has a store or an entry's answer for an argument (Rules 6.3). Of the set, l, k^h and h are read.
 module _ (p : ℕ) (s : ParameterSet) where
-  -- "Replacement: refused with 10 if its leaf is lent in another length than l; else with 11 if its place isn't below k^h; else with 12 if
-  -- a number of the leaf isn't a word."
-  -- "Push: refused with 10 if it has over 2^32 records; else with 11 if a record's place isn't below k^h; else with 12 if a used record
-  -- word isn't a word."
+  -- What the book refuses: of a replacement its leaf's length, its place and its leaf's words (Rules 6.4); of a push its length, its places
+  -- and its leaves' words (Rules 6.5).
   unfoldable pub bookRows : Call → List TableRow
   bookRows (replacement q leaf) =
       row 10 (not (has leaf (s .«node_size»))) ∷
@@ -47,8 +44,7 @@ module _ (p : ℕ) (s : ParameterSet) where
       row 11 (not (placesBelow (leafCount p s) rs)) ∷
       notWords p (usedWords (s .«node_size») rs) ∷ []
 
-  -- "Otherwise accepted: the leaf goes to its place, and the answer is h."
-  -- "Otherwise accepted: each record's leaf goes to its place, in order, and the answer is h times the number of records."
+  -- What it enters where it refuses nothing, and what it then answers: h for each leaf.
   unfoldable pub entered : Call → List ℕ → List ℕ
   entered (replacement q leaf) book = enter s q leaf book
   entered (push rs) book = enterAll s rs book
@@ -60,7 +56,7 @@ module _ (p : ℕ) (s : ParameterSet) where
   unfoldable pub bookReply : Call → Reply
   bookReply c = reply (bookRows c) (bookCount c ∷ [])
 
-  -- "A refused call leaves the book as it was."
+  -- the leaves after a call (Rules 6.6)
   unfoldable pub bookAfter : Call → List ℕ → List ℕ
   bookAfter c book = after (bookReply c) book (entered c book)
 

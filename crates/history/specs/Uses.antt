@@ -31,7 +31,7 @@ AfterCalls P =
 abbrev pub RootOfBook : Type 0
 RootOfBook = AfterCalls (λ s left book. rootOf s (left .store) ≡ storelessRoot (treeOf p s) (s .height) book)
 
--- A push and a replacement that no row turns back answer h times the number of records, and h.
+-- A push that nothing refuses answers h for each record, and a replacement h.
 abbrev pub Counts : Type 0
 Counts =
     (s : ParameterSet) (leaves lent : List ℕ) → buildReply p s leaves lent ≡ done []
@@ -62,7 +62,7 @@ OtherCollides =
     → verifyReply p s (rootOf s (left .store)) q leaf siblings ≡ done (1 ∷ [])
     → RowCollision s)
 
--- Of another leaf that is not accepted the extractor gives no such rows.
+-- For another leaf that is not accepted extraction gives no such rows.
 abbrev pub OnlyAccepted : Type 0
 OnlyAccepted =
     AfterCalls (λ s left book.

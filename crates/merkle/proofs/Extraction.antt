@@ -1,4 +1,4 @@
--- The extractor gives the lowest level at which the two rows differ and compress alike, and two leaves that end alike have one.
+-- Extraction gives the lowest level whose rows collide, and two different leaves that end alike have one.
 use mathlib.Core.Path.{_≡_, refl, sym, ap, _∙_}
 use mathlib.Core.Logic.{_≢_}
 use mathlib.Core.Bool.{Bool, true, false, not, true≢false}

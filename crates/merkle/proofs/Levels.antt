@@ -173,7 +173,7 @@ module _ (S : Shape) (G : Regular S) where
     pub level-rows : (j : ℕ) → j < h → length (level S h leaves j) ≡ count S h (suc j) * (k * l)
     level-rows j b = level-nodes j (omega arith) ∙ count-rows h j b
 
-    -- "Node i of level j + 1 compresses nodes k × i to k × i + k - 1 of level j."
+    -- a node above the leaves is the compression of its row (Rules 4.3)
     pub level-node : (j i : ℕ) → j < h → i < count S h (suc j) → node S i (level S h leaves (suc j)) ≡ compress (row S i (level S h leaves j))
     unfolding level
     level-node j i b c = above-node (count S h (suc j)) i (level S h leaves j) c (level-rows j b)

@@ -120,12 +120,12 @@ module _ (S : Shape) (G : Regular S) where
         length-without (child S q j) (row S (over S q j / k) (storedLevel S h store j)) (child-fits S G (over S q j))
         (length-stored-row S G h store whole j (over S q j / k) b (parent-inside h q j inside b))
 
-    -- "h × (k - 1) × l words"
+    -- its length (Rules 4.7)
     pub length-opening : length (opening S h q store) ≡ h * siblingSize S
     unfolding opening
     length-opening = length-joined-even (openingAt S h q store) (siblingSize S) h length-opening-at
 
-    -- its part for level j: "the row containing node q div k^j, that node left out"
+    -- its part for level j
     pub opening-part : (j : ℕ) → j < h → siblingsAt S (opening S h q store) j ≡ openingAt S h q store j
     unfolding opening siblingsAt
     opening-part j b = part-joined-even (openingAt S h q store) (siblingSize S) j h b length-opening-at

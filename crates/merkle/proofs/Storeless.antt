@@ -14,7 +14,7 @@ use Rattle.merkle.proofs.Levels.{count-down, count-root, child-below, r
 module _ (S : Shape) where
   open Shape S using (arity as k, nodeSize as l, compress)
 
-  -- "a node above the leaves is worked out from its row, and a row from its nodes"
+  -- nodes from rows, and rows from nodes (Rules 7.4)
   pub node-from-row : (leaves : List ℕ) (j i : ℕ) → nodeOf S leaves (suc j) i ≡ compress (rowOf S leaves j (k * i) k)
   unfolding nodeOf rowOf
   node-from-row leaves j i = refl

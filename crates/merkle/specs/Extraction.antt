@@ -1,4 +1,4 @@
--- Document 01, "Replacement and extractor": what the extractor gives for two leaves with their openings.
+-- What extraction gives for two leaves with their siblings (Rules 5.7).
 use mathlib.Core.Bool.{Bool, _&&_, not}
 use mathlib.Core.List.{List}
 use mathlib.Core.Option.{Option, none, some}
@@ -16,11 +16,11 @@ pub record Collision : Type 0 where
 module _ (S : Shape) where
   open Shape S using (compress)
 
-  -- "the two rows differ and compress alike"
+  -- two different rows with the same compression
   unfoldable pub collide : List ℕ → List ℕ → Bool
   collide r s = not (same r s) && same (compress r) (compress s)
 
-  -- they do at level j
+  -- the rows of both leaves at level j are such
   unfoldable pub collideAt : ℕ → List ℕ → List ℕ → List ℕ → List ℕ → ℕ → Bool
   collideAt q a x b y j = collide (pathRow S q a x j) (pathRow S q b y j)
 
@@ -29,6 +29,6 @@ module _ (S : Shape) where
   withRows q a x b y none = none
   withRows q a x b y (some j) = some (record { level = j; first = pathRow S q a x j; second = pathRow S q b y j })
 
-  -- "the lowest level at which the two rows differ and compress alike", with both rows: of the leaf a with the siblings x, and b with y
+  -- the lowest such level below h, with both rows: of the leaf a with the siblings x, and of b with y
   unfoldable pub extract : ℕ → ℕ → List ℕ → List ℕ → List ℕ → List ℕ → Option Collision
   extract h q a x b y = withRows q a x b y (lowest (collideAt q a x b y) h)

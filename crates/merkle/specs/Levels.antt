@@ -1,4 +1,4 @@
--- Document 01, "Compression, nodes, openings": nodes, rows, levels, the store that building writes, and its root.
+-- Nodes, rows and levels, the store that building writes, and its root (Rules 4.2 to 4.6).
 -- A level is the flat list of its nodes, l words each; the compression is any function of a row of t = k × l words.
 use mathlib.Core.Path.{_≡_}
 use mathlib.Core.Bool.{true}
@@ -14,7 +14,7 @@ pub record Shape : Type 0 where
   pub nodeSize : ℕ
   pub compress : List ℕ → List ℕ
 
--- What is asked of a shape: "k = t / l, at least 2", l not 0, and "compression of t words" gives l.
+-- What is asked of a shape: a row has two nodes or more, a node one word or more, and the compression of a row is a node.
 pub record Regular (S : Shape) : Type 0 where
   pub several : 2 ≤ S .arity
   pub nonempty : 0 < S .nodeSize
@@ -27,7 +27,7 @@ pub record KeepsWords (p : ℕ) (S : Shape) : Type 0 where
 module _ (S : Shape) where
   open Shape S using (arity as k, nodeSize as l, compress)
 
-  -- n nodes: "l words a node"
+  -- n nodes, l numbers each
   abbrev pub Nodes : ℕ → List ℕ → Type 0
   Nodes n xs = length xs ≡ n * l
 
@@ -39,7 +39,7 @@ module _ (S : Shape) where
   abbrev pub row : ℕ → List ℕ → List ℕ
   row i level = part (i * (k * l)) (k * l) level
 
-  -- "Node i of level j + 1 compresses nodes k × i to k × i + k - 1 of level j": the n nodes above a level
+  -- the n nodes above a level, each the compression of its row (Rules 4.3)
   unfoldable pub above : ℕ → List ℕ → List ℕ
   above n level = joined (λ i. compress (row i level)) n
 
@@ -47,7 +47,7 @@ module _ (S : Shape) where
   abbrev pub count : ℕ → ℕ → ℕ
   count h j = k ^ (h - j)
 
-  -- "level 0 (k^h leaves), then level 1, up to the root"
+  -- level j: the leaves, or else the nodes above the level below
   unfoldable pub level : ℕ → List ℕ → ℕ → List ℕ
   level h leaves zero = leaves
   level h leaves (suc j) = above (count h (suc j)) (level h leaves j)
@@ -71,6 +71,6 @@ module _ (S : Shape) where
   unfoldable pub storedLevel : ℕ → List ℕ → ℕ → List ℕ
   storedLevel h store j = part (start h j) (count h j * l) store
 
-  -- "the root is its last l words"
+  -- the root, the last node (Rules 4.6)
   unfoldable pub root : List ℕ → List ℕ
   root store = drop (length store - l) store

@@ -1,4 +1,4 @@
--- The tree over any compression of a row of k nodes to one: document 01, "Compression, nodes, openings" and "Replacement and extractor".
+-- The tree over any compression of a row of k nodes to one (Rules 4, 5, 7.4).
 pub mod Lists
 pub mod Levels
 pub mod Storeless

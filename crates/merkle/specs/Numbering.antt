@@ -1,6 +1,6 @@
 -- The nodes numbered through the whole store, w = k^h leaves first: node w + n compresses row n of the store, the k nodes from k × n on,
 -- and the node above node f is w + f / k. So building is one loop over n, and a climb needs no level.
--- Nothing here has to be believed: the laws of `Numbered` equate each form with document 01's.
+-- Nothing here has to be believed: the laws of `Numbered` equate each form with the plain one, which says the rules.
 use mathlib.Core.Path.{_≡_}
 use mathlib.Core.List.{List}
 use Prim.Native.Nat.{ℕ, zero, suc, _+_, _*_, _/_, _%_, _^_, _≤_, _<_}

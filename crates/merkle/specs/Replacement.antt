@@ -1,4 +1,4 @@
--- Document 01, "Replacement and extractor": one node rewritten and counted, replacements and pushes. Refusals stand elsewhere.
+-- One node rewritten and counted, replacements and pushes (Rules 5.1 to 5.4). Refusals stand elsewhere.
 use mathlib.Core.List.{List, [], _∷_}
 use Prim.Native.Nat.{ℕ, zero, suc, _+_, _*_}
 use Rattle.merkle.specs.Lists.{put}
@@ -18,8 +18,7 @@ pub record Change : Type 0 where
 module _ (S : Shape) where
   open Shape S using (arity as k, nodeSize as l, compress)
 
-  -- "One function compresses a row, writes its node and answers the count it is handed plus one."
-  -- It compresses row i of level j and writes node i of level j + 1.
+  -- The compression of row i of level j is written as node i of the level above, and the count goes up by one (Rules 5.1).
   unfoldable pub rewriteNode : ℕ → ℕ → ℕ → Counted → Counted
   rewriteNode h j i s =
       record {
@@ -32,15 +31,15 @@ module _ (S : Shape) where
   climb h q zero s = s
   climb h q (suc j) s = rewriteNode h j (over S q (suc j)) (climb h q j s)
 
-  -- "A replacement writes the leaf at q and the h nodes above it from stored siblings, nothing else"
+  -- A replacement: the leaf is written at its place, then the nodes above it up to the root (Rules 5.2).
   unfoldable pub replaceFrom : ℕ → ℕ → List ℕ → Counted → Counted
   replaceFrom h q leaf s = climb h q h (record { store = put (s .store) (q * l) leaf; made = s .made })
 
-  -- "start from 0"
+  -- the same, with the count begun at 0
   unfoldable pub replace : ℕ → ℕ → List ℕ → List ℕ → Counted
   replace h q leaf store = replaceFrom h q leaf (record { store = store; made = 0 })
 
-  -- "Records are done in order"; "hand the count on from call to call, and report the last"
+  -- A push: one replacement after another, under one count (Rules 5.4).
   unfoldable pub pushFrom : ℕ → List Change → Counted → Counted
   pushFrom h [] s = s
   pushFrom h (c ∷ cs) s = pushFrom h cs (replaceFrom h (c .place) (c .leaf) s)

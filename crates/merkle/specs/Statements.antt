@@ -16,7 +16,7 @@ use Rattle.merkle.specs.Extraction.{Collision, extract}
 
 -- ---- building
 
--- What document 01 says of a store: its size, its leaves, and that node i of level j + 1 compresses row i of level j.
+-- What a store of these leaves is (Rules 4.3, 4.4): its size, its leaves, and that each node above them is the compression of its row.
 pub record IsStore (S : Shape) (h : ℕ) (leaves store : List ℕ) : Type 0 where
   pub whole : length store ≡ size S h
   pub bottom : storedLevel S h store 0 ≡ leaves
@@ -27,19 +27,19 @@ pub record IsStore (S : Shape) (h : ℕ) (leaves store : List ℕ) : Type 0 wher
 pub record Building (S : Shape) (h : ℕ) (leaves : List ℕ) : Type 0 where
   pub isStore : IsStore S h leaves (build S h leaves)
   pub only : (store : List ℕ) → IsStore S h leaves store → store ≡ build S h leaves
-  -- "the root is its last l words", the level of one node
+  -- the root is the level of one node
   pub rootLevel : root S (build S h leaves) ≡ storedLevel S h (build S h leaves) h
 
--- "For h = 0 the root is the leaf."
+-- With no level above it, a leaf is the root (Rules 4.6).
 abbrev pub LeafRoot : Shape → Type 0
 LeafRoot S = (leaf : List ℕ) → length leaf ≡ S .nodeSize → root S (build S 0 leaf) ≡ leaf
 
 -- ---- the storeless root
 
 pub record Storeless (S : Shape) : Type 0 where
-  -- "a node above the leaves is worked out from its row"
+  -- a node from its row,
   pub fromRow : (leaves : List ℕ) (j i : ℕ) → nodeOf S leaves (suc j) i ≡ S .compress (rowOf S leaves j (S .arity * i) (S .arity))
-  -- "and a row from its nodes"
+  -- and a row node by node (Rules 7.4)
   pub fromNone : (leaves : List ℕ) (j i : ℕ) → rowOf S leaves j i 0 ≡ []
   pub fromNodes : (leaves : List ℕ) (j i n : ℕ) → rowOf S leaves j i (suc n) ≡ rowOf S leaves j i n ++ nodeOf S leaves j (i + n)
   -- it is the root of the store that building writes
@@ -58,7 +58,7 @@ pub record OwnOpening (S : Shape) (h q : ℕ) (leaves : List ℕ) : Type 0 where
   pub ends : pathNode S q (node S q leaves) (opening S h q (build S h leaves)) h ≡ root S (build S h leaves)
   pub accepted : accepts S h (root S (build S h leaves)) q (node S q leaves) (opening S h q (build S h leaves)) ≡ true
 
--- "Accepted: the leaf put back among its siblings at each level ends in the given root", and nothing else is.
+-- What is accepted is what ends in the root, and nothing else (Rules 4.11).
 abbrev pub Accepting : Shape → Type 0
 Accepting S = (h : ℕ) (root : List ℕ) (q : ℕ) (leaf siblings : List ℕ) → (accepts S h root q leaf siblings ≡ true) ↔ (pathNode S q leaf siblings h ≡ root)
 
@@ -74,23 +74,23 @@ abbrev pub Proper : Shape → ℕ → List Change → Type 0
 Proper S h [] = Unit {0}
 Proper S h (c ∷ cs) = (c .place < S .arity ^ h) × (length (c .leaf) ≡ S .nodeSize) × Proper S h cs
 
--- So does a push, record by record; "the count is h times the list's length".
+-- So does a push, record by record, and its count is h for each.
 pub record Pushed (S : Shape) (h : ℕ) (cs : List Change) (leaves : List ℕ) : Type 0 where
   pub stored : push S h cs (build S h leaves) .store ≡ build S h (changed S cs leaves)
   pub counted : push S h cs (build S h leaves) .made ≡ h * length cs
 
--- The counts owe nothing to the store: h for a replacement, h times the list's length for a push.
+-- The counts owe nothing to the store: h for a replacement, and for a push h for each record.
 pub record Counts (S : Shape) : Type 0 where
   pub one : (h q : ℕ) (leaf store : List ℕ) → replace S h q leaf store .made ≡ h
   pub each : (h : ℕ) (cs : List Change) (store : List ℕ) → push S h cs store .made ≡ h * length cs
 
--- "an empty list changes nothing"
+-- A push of no record leaves the store, and its count is 0 (Rules 5.4).
 abbrev pub EmptyPush : Shape → Type 0
 EmptyPush S = (h : ℕ) (store : List ℕ) → push S h [] store ≡ record { store = store; made = 0 }
 
--- ---- the extractor
+-- ---- extraction
 
--- The rows stand at a level below h, differ and compress alike, and at no lower level do two that differ.
+-- The rows are of a level below h and collide; at no lower level do the rows of the two leaves.
 pub record LowestCollision (S : Shape) (h q : ℕ) (a x b y : List ℕ) (c : Collision) : Type 0 where
   pub below : c .level < h
   pub first : c .first ≡ pathRow S q a x (c .level)
@@ -99,7 +99,7 @@ pub record LowestCollision (S : Shape) (h q : ℕ) (a x b y : List ℕ) (c : Col
   pub alike : S .compress (c .first) ≡ S .compress (c .second)
   pub lowest : (i : ℕ) → i < c .level → S .compress (pathRow S q a x i) ≡ S .compress (pathRow S q b y i) → pathRow S q a x i ≡ pathRow S q b y i
 
--- What is extracted is such a collision; where nothing is, no two rows differ and compress alike.
+-- What is extracted is such a collision; where nothing is, the rows of the two leaves collide at no level.
 abbrev pub Extracted : (S : Shape) (h q : ℕ) (a x b y : List ℕ) → Option Collision → Type 0
 Extracted S h q a x b y none =
     (i : ℕ) → i < h → S .compress (pathRow S q a x i) ≡ S .compress (pathRow S q b y i) → pathRow S q a x i ≡ pathRow S q b y i

@@ -1,4 +1,4 @@
--- Document 01, "Beside it": the storeless root.
+-- The storeless root (Rules 7.4).
 use mathlib.Core.List.{List}
 use Prim.Native.Nat.{ℕ, zero, suc, _+_, _*_}
 use Rattle.merkle.specs.Lists.{joined}
@@ -7,8 +7,7 @@ use Rattle.merkle.specs.Levels.{Shape, node}
 module _ (S : Shape) where
   open Shape S using (arity as k, compress)
 
-  -- "The storeless root reads leaves only: a node above the leaves is worked out from its row, and a row from its nodes."
-  -- Node i of level j, the row beneath it being the k nodes from k × i on.
+  -- Node i of level j, from the leaves alone: a leaf, or else the compression of the row beneath it, the k nodes from k × i on.
   unfoldable pub nodeOf : List ℕ → ℕ → ℕ → List ℕ
   nodeOf leaves zero i = node S i leaves
   nodeOf leaves (suc j) i = compress (joined (λ c. nodeOf leaves j (k * i + c)) k)

@@ -1,2 +1,2 @@
--- Document 01's worked cases.
+-- The worked cases.
 pub mod Worked

@@ -1,4 +1,4 @@
--- Document 01, "Worked by hand": the cases marked *, in one list, and the claim that all of them hold.
+-- The worked cases of Rules 9 that are marked *, in one list, and the claim that all of them hold.
 use mathlib.Core.Path.{_≡_}
 use mathlib.Core.List.{List, [], _∷_, _++_}
 use Prim.Native.Nat.{ℕ, _+_, _-_, _^_}
@@ -10,7 +10,7 @@ use Rattle.poseidon2.specs.Compression.{compress}
 use Rattle.merkle.specs.Levels.{Shape, build, root}
 use Rattle.trees.specs.Shapes.{shape}
 
--- What the definitions give, and what the document says.
+-- What the definitions give, and what Rules 9 says.
 pub record Case : Type 0 where
   pub given : List ℕ
   pub said : List ℕ
@@ -26,14 +26,14 @@ fieldCases =
     case (sub p 0 1 ∷ []) ((p - 1) ∷ []) ∷
     case (inverse p 2 ∷ []) (9223372034707292161 ∷ []) ∷ []
 
--- "T: t=4, l=2, h=1, R_F=2, R_P=0, D=(1,2,3,4), C=(0,0,0,0, p-505316, p-410806, p-127289, p-94519)."
+-- D and C of the set T.
 abbrev pub tDiagonal : List ℕ
 tDiagonal = 1 ∷ 2 ∷ 3 ∷ 4 ∷ []
 
 abbrev pub tConstants : List ℕ
 tConstants = 0 ∷ 0 ∷ 0 ∷ 0 ∷ (p - 505316) ∷ (p - 410806) ∷ (p - 127289) ∷ (p - 94519) ∷ []
 
--- "U: as T, R_P=1, C=(0,0,0,0, p-505316, p-632615, p-1454227, p-1014482, p-1010691)."
+-- C of the set U, whose D is T's.
 abbrev pub uConstants : List ℕ
 uConstants = 0 ∷ 0 ∷ 0 ∷ 0 ∷ (p - 505316) ∷ (p - 632615) ∷ (p - 1454227) ∷ (p - 1014482) ∷ (p - 1010691) ∷ []
 
@@ -51,7 +51,7 @@ permutationCases =
     case (permute p 1 1 tDiagonal uConstants one) (5 ∷ 4 ∷ 1 ∷ 1 ∷ []) ∷
     case (compress p 2 1 1 tDiagonal uConstants one) (6 ∷ 4 ∷ []) ∷ []
 
--- "T, leaves (1,0),(0,0): root (6,4)."
+-- The tree of T, and the root of the leaves 1, 0 and 0, 0.
 abbrev pub tTree : Shape
 tTree = shape p 4 2 1 0 tDiagonal tConstants
 

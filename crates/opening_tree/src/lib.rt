@@ -1,5 +1,5 @@
-// The library's public entries, each defined in a crate of its own kind. None presumes anything of its caller: each tests the rows
-// of document 01's table in their order, answers the first that applies with every buffer as it was, or does the work.
+// The library's public entries, each defined in a crate of its own kind. None presumes anything of its caller: each answers the first of its
+// refusals that applies, in the order of Rules 8.8 and with every buffer as it was, or does the work.
 pub use change_entries::Changed;
 pub use change_entries::replace;
 pub use extraction_entries::Extraction;

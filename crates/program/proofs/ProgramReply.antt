@@ -26,7 +26,7 @@ use Rattle.trees.specs.SetTrees.{treeOf, leafWords}
 use Rattle.tree_entries.specs.Trees.{has, storelessRows, storelessReply, storelessRooted}
 use Rattle.program.specs.Program.{readWidth, readNodeSize, readHeight, readFullRounds, readPartialRounds, readDiagonal, readConstants, readLeaves, readSet, readValidation, readRows, readRoot, badByteCount, programReply, numbersOf, lines, refusedLine, replyText, rootText, decimal, digits, EmptyInput}
 
--- Rows that do not apply leave the reply to those after them.
+-- Refusals that do not apply leave the reply to those after them.
 reply-back : (rows more : List TableRow) (result : List ℕ) → Numbered rows → firstRow rows ≡ 0 → reply (rows ++ more) result ≡ reply more result
 unfolding firstRow reply
 reply-back [] more result N e = refl
@@ -62,7 +62,7 @@ and-true : (a b : Bool) → b ≡ true → (a && b) ≡ a
 and-true true b e = e
 and-true false b e = refl
 
--- What validation says of its rows.
+-- What validation says of its refusals.
 module _ (p t l h rf rp : ℕ) (D C : List ℕ) where
   abbrev rows : List TableRow
   rows = validationRows p t l h rf rp D C
@@ -97,7 +97,7 @@ module _ (p t l h rf rp : ℕ) (D C : List ℕ) where
           eqb-true (length C) (constantCount t rf rp) (right-true (eqb (length D) t) (eqb (length C) (constantCount t rf rp)) b),
         )
 
-    -- the set that is held passes its own rows
+    -- the set that is held is not refused itself
     passes-again : firstRow (setRows p (held t l h rf rp D C)) ≡ 0
     unfolding setRows heldRows held padded
     passes-again =
@@ -121,7 +121,7 @@ module _ (p : ℕ) (ns : List ℕ) (v : Validation) (e : v ≡ readValidation p 
   unfolding readValidation
   first-is = ap (λ (w : Validation). w .number) e ∙ number-is p _ _ _ _ _ _ _
 
-  -- A set that is turned down.
+  -- A set that is refused.
   pub turned-down : v .number ≢ 0 → reply (readRows p ns) (readRoot p ns) ≡ refused (v .number)
   unfolding readRows
   turned-down o =
@@ -141,7 +141,7 @@ module _ (p : ℕ) (ns : List ℕ) (v : Validation) (e : v ≡ readValidation p 
     node-size-few = rw set-of (node-few p _ _ _ _ _ _ _ none-of)
 
     module _ (node : List ℕ) (long : length node ≡ v .parameters .«node_size») where
-      -- the storeless root's reply is that of the leaves' rows
+      -- the storeless root's reply is that of the leaves' refusals
       by-leaves : storelessReply p (v .parameters) (readLeaves ns) node ≡ reply leafRows []
       unfolding storelessReply storelessRows
       by-leaves = rw (and-true (has (readLeaves ns) (leafWords p (v .parameters))) (has node (v .parameters .«node_size»)) (eq-eqb _ _ long), set-of)
@@ -151,7 +151,7 @@ module _ (p : ℕ) (ns : List ℕ) (v : Validation) (e : v ≡ readValidation p 
       unfolding readRows
       by-rows = reply-back validRows leafRows (readRoot p ns) (rows-numbered p _ _ _ _ _ _ _) none-of
 
-      -- The leaves are turned down, or there is a root.
+      -- The leaves are refused, or there is a root.
       pub root-refused : (n : ℕ) → refused n ≡ storelessReply p (v .parameters) (readLeaves ns) node → reply (readRows p ns) (readRoot p ns) ≡ refused n
       root-refused n r = by-rows ∙ refused-too leafRows [] (readRoot p ns) n (r ∙ by-leaves)
 
@@ -177,7 +177,7 @@ module _ (p : ℕ) (ns : List ℕ) (v : Validation) (e : v ≡ readValidation p 
           let made : done [] ≡ storelessReply p (v .parameters) (readLeaves ns) node = sym (ap outcomeReply told) ∙ r ∙ ap (λ (xs : List ℕ). storelessReply p (v .parameters) xs node) same in
           ap lines (w ∙ ap (λ (xs : List ℕ). storelessRooted p (v .parameters) xs node) same) ∙ sym (ap replyText (root-done made))
 
--- The byte count, tested before every other row.
+-- The byte count, which is tested first.
 module _ (n : ℕ) where
   pub count-short : n < 40 → badByteCount n ≡ true
   unfolding badByteCount

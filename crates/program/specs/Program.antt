@@ -1,4 +1,4 @@
--- Document 01, "Beside it": the root program, from the bytes of its standard input to those of its standard output.
+-- The root program (Rules 7.5, 7.6), from the bytes of its standard input to those of its standard output.
 use mathlib.Core.Path.{_≡_}
 use mathlib.Core.Bool.{Bool, cond, not, _||_}
 use mathlib.Core.List.{List, [], _∷_, _++_}
@@ -14,7 +14,7 @@ use Rattle.merkle.specs.Storeless.{storelessRoot}
 use Rattle.trees.specs.SetTrees.{treeOf, leafWords}
 use Rattle.tree_entries.specs.Trees.{has}
 
--- "8-byte little-endian numbers": the number of some bytes, the lowest first
+-- the number of some bytes, the lowest first
 unfoldable pub littleEndian : List ℕ → ℕ
 littleEndian [] = 0
 littleEndian (b ∷ bs) = b + 256 * littleEndian bs
@@ -24,7 +24,7 @@ unfoldable pub numbersOf : ℕ → List ℕ → List ℕ
 numbersOf zero bytes = []
 numbersOf (suc n) bytes = littleEndian (take 8 bytes) ∷ numbersOf n (drop 8 bytes)
 
--- "t, l, h, R_F, R_P, D, C, leaves": each list is shorter where the numbers end within it.
+-- What the numbers are, in their order (Rules 7.5). Where they end within a list, this is shorter.
 module _ (numbers : List ℕ) where
   abbrev pub readWidth : ℕ
   readWidth = getD numbers 0 0
@@ -60,12 +60,12 @@ module _ (numbers : List ℕ) where
   abbrev pub readSet : ParameterSet
   readSet = held readWidth readNodeSize readHeight readFullRounds readPartialRounds readDiagonal readConstants
 
--- What validation answers to the numbers that were read: "An end within D or C gives 6 unless a lower row applies."
+-- What validation answers to the numbers that were read. A list that ended too early is refused with 6, if nothing lower applies.
 unfoldable pub readValidation : ℕ → List ℕ → Validation
 readValidation p ns =
     validation p (readWidth ns) (readNodeSize ns) (readHeight ns) (readFullRounds ns) (readPartialRounds ns) (readDiagonal ns) (readConstants ns)
 
--- The rows of the numbers: those of validation; then 10 and 12 for the leaves.
+-- The refusals of the numbers: those of validation; then 10 and 12 for the leaves (Rules 8.8).
 unfoldable pub readRows : ℕ → List ℕ → List TableRow
 readRows p ns =
     validationRows p (readWidth ns) (readNodeSize ns) (readHeight ns) (readFullRounds ns) (readPartialRounds ns) (readDiagonal ns) (readConstants ns)
@@ -74,17 +74,17 @@ readRows p ns =
 unfoldable pub readRoot : ℕ → List ℕ → List ℕ
 readRoot p ns = storelessRoot (treeOf p (readSet ns)) (readHeight ns) (readLeaves ns)
 
--- "Under 40 bytes, over 65,536, or not a multiple of 8"
+-- The byte counts that are refused (Rules 7.5).
 unfoldable pub badByteCount : ℕ → Bool
 badByteCount n = ltb n 40 || ltb 65536 n || not (eqb (n % 8) 0)
 
--- The program's reply: the byte count "gives 10, tested before every other row".
+-- The program's reply: 10 for the byte count comes before all other refusals.
 unfoldable pub programReply : ℕ → List ℕ → Reply
 programReply p bytes =
     let ns = numbersOf (length bytes / 8) bytes in
     reply (row 10 (badByteCount (length bytes)) ∷ readRows p ns) (readRoot p ns)
 
--- A number "in decimal", as ASCII: the last digit follows the text of the others. It has at most as many digits as the first number says.
+-- A number in decimal, as ASCII: the last digit follows the text of the others. It has at most as many digits as the first number says.
 unfoldable pub digits : ℕ → ℕ → List ℕ
 digits zero n = []
 digits (suc most) n = cond (ltb n 10) ((48 + n) ∷ []) (digits most (n / 10) ++ ((48 + n % 10) ∷ []))
@@ -96,12 +96,12 @@ decimal n = digits (suc n) n
 abbrev pub newline : ℕ
 newline = 10
 
--- "the root's words in decimal, one a line"
+-- the root: each word on a line of its own (Rules 7.6)
 unfoldable pub lines : List ℕ → List ℕ
 lines [] = []
 lines (w ∷ ws) = decimal w ++ (newline ∷ lines ws)
 
--- "`refused ` and the number, then a newline"
+-- a refusal: a line with its number (Rules 7.6)
 abbrev pub refusedWord : List ℕ
 refusedWord = 114 ∷ 101 ∷ 102 ∷ 117 ∷ 115 ∷ 101 ∷ 100 ∷ 32 ∷ []
 
@@ -116,7 +116,7 @@ replyText (done words) = lines words
 unfoldable pub rootText : ℕ → List ℕ → List ℕ
 rootText p bytes = replyText (programReply p bytes)
 
--- "Empty input prints `refused 10` and a newline."
+-- No input at all is refused with 10 (Rules 7.5).
 abbrev pub EmptyInput : Type 0
 EmptyInput = (p : ℕ) → rootText p [] ≡ refusedWord ++ (49 ∷ 48 ∷ newline ∷ [])
 

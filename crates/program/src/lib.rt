@@ -1,4 +1,4 @@
-// The root program, from the bytes that it reads to those that it writes.
+// The root program (Rules 7.5, 7.6), from the bytes that it reads to those that it writes.
 ghost use mathlib.Core.Path.{_≡_};
 ghost use mathlib.Core.List.{_∷_, []};
 ghost use Prim.Native.Nat.{_+_, _/_, _≤_, _<_, min};
@@ -128,7 +128,7 @@ fn put_decimal(n: u64, at: usize, output: &mut [u8]) -> usize
     put_byte(48 + (n % 10) as u8, last, output)
 }
 
-// The words in decimal, one a line.
+// The words in decimal, each on a line of its own.
 fn put_lines(words: &[u64], output: &mut [u8]) -> usize
     requires { ⌜ (length (now words) ≤ 6) × (length (now output) ≡ 128) ⌝ }
     ensures { λ r. ⌜ (r ≤ length (now (output .exit))) × (take r (now (output .exit)) ≡ lines (now (words .entry))) ⌝ }
@@ -180,7 +180,7 @@ fn leaves_read(numbers: &[u64]) -> &[u64]
     beyond(rest, constants_read(numbers))
 }
 
-// The set of the numbers, or the row that turns it down.
+// The set of the numbers, or the refusal of it.
 fn set_read(numbers: &[u64]) -> Validation
     ensures { λ r. ⌜ r ≡ readValidation p (now (numbers .entry)) ⌝ }
 {
@@ -198,7 +198,7 @@ fn set_read(numbers: &[u64]) -> Validation
     )
 }
 
-// The text for the numbers t, l, h, R_F, R_P, D, C, leaves.
+// The text for the numbers that were read.
 fn text_of(numbers: &[u64], output: &mut [u8]) -> usize
     requires { ⌜ length (now output) ≡ 128 ⌝ }
     ensures { λ r. ⌜ (r ≤ length (now (output .exit))) × (take r (now (output .exit)) ≡ replyText (reply (readRows p (now (numbers .entry))) (readRoot p (now (numbers .entry))))) ⌝ }

@@ -1,4 +1,4 @@
-// The root, from the leaves alone.
+// The root, from the leaves alone (Rules 7.4).
 ghost use mathlib.Core.Path.{_≡_};
 ghost use mathlib.Core.List.{_++_};
 ghost use Prim.Native.Nat.{_+_, _*_, _^_, _≤_};
@@ -30,7 +30,7 @@ fn leaf_row(leaves: &[u64], from: usize, count: usize) -> [u64; 12]
     row
 }
 
-// Node i of a level: "a node above the leaves is worked out from its row".
+// Node i of a level: a leaf, or the compression of its row.
 fn node(
     d: Dimensions,
     diagonal: &[u64; 12],
@@ -50,7 +50,7 @@ fn node(
     nodes::compress_row(d, diagonal, constants, x)
 }
 
-// The n nodes of a level from the first on: "and a row from its nodes". Leaves are copied at once.
+// The n nodes of a level from the first on, node by node. Leaves are copied at once.
 fn row(
     d: Dimensions,
     diagonal: &[u64; 12],
