@@ -1,4 +1,4 @@
-//! The library's entries in Rust, over either version of the arithmetic. Each does what the proved entry does: it judges the set,
+//! The library's entries in Rust, over either version of the arithmetic. Each does what the proved entry does: it validates the set,
 //! tests lengths, places and words, and leaves every buffer as it was where it refuses. T is the width, known to the compiler.
 use crate::poseidon2::{add, residue, Version, P};
 
@@ -39,7 +39,7 @@ fn bad_height(arity: u64, height: u64) -> bool {
     false
 }
 
-/// Whether 1 plus the inverses of all D is 0: that sum times the product of all D, without an inversion.
+/// Whether 9 refuses D: 1 and the inverses of its words, added up, times the product of the words; so without an inversion.
 fn bad_diagonal<V: Version>(diagonal: &[u64]) -> bool {
     let (mut all, mut but_one) = (1, 0);
     for &d in diagonal {

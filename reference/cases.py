@@ -11,7 +11,7 @@ line is how many lines follow. Each of these is one of
 
 where SET is the five numbers t l h R_F R_P; D, C and STATE are lists; BEYOND is
 the number that a set's places hold beyond D and beyond C; and NODE is the
-length of the node that compress is lent, each of whose numbers is 7 before. A
+length of the node's buffer for compress, each of whose numbers is 7 before. A
 list is
 
     COUNT SEED RUNS {PLACE LENGTH VALUE ...} ...
@@ -26,7 +26,7 @@ COUNT places; a set that is handed in holds the whole buffer. No COUNT and no
 NODE is above its buffer's places (16 for a node); the program takes what is
 above as the number of places.
 
-Each case knows the row that it is to be refused with, 0 for none; the
+Each case knows the number that it is to be refused with, 0 for none; the
 reference's own checks compare that with what the entries answer.
 """
 
@@ -84,7 +84,7 @@ class Listed:
 
 @dataclass
 class Case:
-    """A line of the input but for its first number, and the row that is to refuse it."""
+    """A line of the input but for its first number, and the number that is to refuse it."""
 
     width: int
     node_size: int
@@ -175,12 +175,12 @@ U_CONSTANTS += [P - 632615, P - 1454227, P - 1014482, P - 1010691]
 
 
 def case_t() -> Case:
-    """T of document 01, and the state (1,0,0,0)."""
+    """The set T (Rules 9) and the state of its worked case."""
     return written(seeded(4, 2, 1, 2, 0, 0), [1, 2, 3, 4], T_CONSTANTS, [1, 0, 0, 0])
 
 
 def case_u() -> Case:
-    """U of document 01, and the state (1,0,0,0)."""
+    """The set U (Rules 9) and the state of its worked case."""
     return written(seeded(4, 2, 1, 2, 1, 0), [1, 2, 3, 4], U_CONSTANTS, [1, 0, 0, 0])
 
 
@@ -193,8 +193,8 @@ def highest(width: int, node_size: int) -> int:
     return max(h for h in range(33) if (width // node_size) ** h <= 2**32)
 
 
-# Faults. Each is a change of a case, after which its row applies, and the rows
-# above it where that can't be helped.
+# Faults. Each is a change of a case, after which its refusal applies, and higher
+# ones where that can't be helped.
 
 Fault = Callable[[Case], None]
 
@@ -249,14 +249,14 @@ def all_of(value: int, width: int) -> Fault:
 
 
 def cancelling(words: list[int], place: int) -> Fault:
-    """At a place of D, the number for which 1 plus the inverses of all D is 0."""
+    """At a place of D, the number for which D is refused with 9."""
     others = words[:place] + words[place + 1 :]
     total = (1 + sum(pow(d, -1, P) for d in others)) % P
     return at("diagonal", place, pow(-total, -1, P))
 
 
 def faults(case: Case) -> dict[int, list[Fault]]:
-    """The ways in which each row can apply to a case that has no fault."""
+    """The ways in which each refusal can apply to a case that has no fault."""
     t, l = case.width, case.node_size
     words = case.diagonal.numbers(LIST_DIAGONAL_PLACES)
     last_d, last_c = t - 1, case.constants.count - 1
@@ -278,13 +278,13 @@ def faults(case: Case) -> dict[int, list[Fault]]:
     return ways
 
 
-# The order in which faults are made: the numbers, then the words, a lower row's
-# over a higher one's, then the lengths.
+# The order in which faults are made: the numbers, then the words, a lower
+# refusal's over a higher one's, then the lengths.
 ORDER = [1, 2, 3, 4, 5, 9, 8, 7, 6, 12, 10]
 
 
 def faulted(case: Case, *rows_and_faults: tuple[int, Fault]) -> Case:
-    """The case with these faults; the lowest row is to refuse it."""
+    """The case with these faults; the lowest number is to refuse it."""
     case = deepcopy(case)
     for row, fault in sorted(rows_and_faults, key=lambda pair: ORDER.index(pair[0])):
         fault(case)
@@ -362,7 +362,7 @@ BASES = [
 
 
 def single_faults() -> Iterator[Case]:
-    """Each row alone, in each of its ways."""
+    """Each refusal alone, in each of its ways."""
     for base in BASES:
         for row, ways in faults(base).items():
             for fault in ways:
@@ -370,7 +370,7 @@ def single_faults() -> Iterator[Case]:
 
 
 def double_faults() -> Iterator[Case]:
-    """Every two rows at once, in one way for each base."""
+    """Every two refusals at once, in one way for each base."""
     for number, base in enumerate(BASES):
         ways = faults(base)
         for i, j in combinations(range(1, 10), 2):
@@ -381,7 +381,7 @@ def double_faults() -> Iterator[Case]:
 
 
 def entangled_faults() -> Iterator[Case]:
-    """Rows 7 to 9 where one is easily taken for another."""
+    """7 to 9 where one is easily taken for another."""
     for base in BASES:
         t = base.width
         # A zero, and the inverses of the others cancel.
@@ -453,7 +453,7 @@ def seeded_states() -> Iterator[tuple[int, Case]]:
 
 
 def unused_places() -> Iterator[tuple[int, Case]]:
-    """Places beyond the used ones may hold anything."""
+    """What a set holds in places that aren't used changes nothing."""
     for i, (t, l) in enumerate(SIZES):
         for beyond in (0, P, LARGEST):
             case = seeded(t, l, 1, 2 * (i % 5 + 1), 7 * i, 560 + 3 * i)
@@ -469,7 +469,7 @@ STATE_BASES = [
 
 
 def state_faults(case: Case) -> dict[int, list[Fault]]:
-    """The ways in which rows 10 and 12 can apply to a state."""
+    """The ways in which 10 and 12 can apply to a state."""
     t = case.width
     return {
         10: [longer("state", by) for by in (1, STATE_PLACES - t, -1, -t)],
@@ -478,12 +478,12 @@ def state_faults(case: Case) -> dict[int, list[Fault]]:
 
 
 def set_faults(case: Case) -> dict[int, list[Fault]]:
-    """The ways in which a row can apply to a set that is handed in: all but row 6."""
+    """The ways in which each refusal can apply to a set that is handed in: all but 6."""
     return {row: ways for row, ways in faults(case).items() if row != 6}
 
 
 def refused_states() -> Iterator[Case]:
-    """Each row alone, and two at once."""
+    """Each refusal alone, and two at once."""
     for number, base in enumerate(STATE_BASES):
         ways = set_faults(base) | state_faults(base)
         for row in ways:

@@ -1,4 +1,4 @@
-"""Makes openings that end in the same root from different leaves, for the extractor.
+"""Makes openings that end in the same root from different leaves, for extraction.
 
 No collision of a sound set is known, so each set here is made for its own
 openings: it has R_F = 2 and R_P = 0, drawn words in D, and constants that are
@@ -245,7 +245,7 @@ def meeting_twice(search: Search) -> list[Pair]:
 @dataclass
 class Collision:
     """A set, a root and a place, two leaves with siblings that are accepted, and the level that
-    the extractor gives. D is the drawn words of the seed."""
+    extraction gives. D is the drawn words of the seed."""
 
     set: ParameterSet
     seed: int

@@ -1,7 +1,7 @@
-"""The field of document 01: the words 0 to p - 1, and arithmetic modulo p.
+"""The field (docs/RULES.md, sections 1 and 7.1): words, and arithmetic modulo p.
 
 Every entry takes any 64-bit numbers and answers a pair: ("word", n), or
-("refused", r) where r is the lowest row of the refusal table that applies.
+("refused", r) where r is the number of the first refusal that applies.
 """
 
 P = 18446744069414584321
@@ -14,46 +14,46 @@ Answer = tuple[str, int]
 
 
 def is_word(n: int) -> bool:
-    """Only 0 to p - 1 is a word; p itself is not another zero."""
+    """A word is below p; p is not one (Rules 1.2)."""
     return 0 <= n < P
 
 
 def all_words(numbers: list[int]) -> bool:
-    """Row 12 doesn't apply to these numbers: each of them is a word."""
+    """Each of these numbers is a word: 12 doesn't apply to them."""
     return all(is_word(n) for n in numbers)
 
 
 # This name hides Python's own sum in this file; nothing here needs that one.
 def sum(a: int, b: int) -> Answer:
-    """The sum is taken modulo p."""
+    """The sum modulo p (Rules 1.3)."""
     if not all_words([a, b]):
         return ("refused", 12)
     return ("word", (a + b) % P)
 
 
 def difference(a: int, b: int) -> Answer:
-    """The difference is taken modulo p."""
+    """The difference modulo p (Rules 1.3)."""
     if not all_words([a, b]):
         return ("refused", 12)
     return ("word", (a - b) % P)
 
 
 def product(a: int, b: int) -> Answer:
-    """The product is taken modulo p."""
+    """The product modulo p (Rules 1.3)."""
     if not all_words([a, b]):
         return ("refused", 12)
     return ("word", (a * b) % P)
 
 
 def power(a: int, exponent: int) -> Answer:
-    """The power is taken modulo p; the exponent is free; 0 to the power 0 is 1."""
+    """The power modulo p, for any exponent; with the exponent 0 it is 1 (Rules 1.4)."""
     if not is_word(a):
         return ("refused", 12)
     return ("word", pow(a, exponent, P))
 
 
 def inverse(a: int) -> Answer:
-    """The inverse of a non-zero word is the word whose product with it is 1."""
+    """The word that gives 1 when multiplied by this one; 0 has none (Rules 1.5)."""
     if not is_word(a):
         return ("refused", 12)
     if a == 0:
@@ -62,7 +62,7 @@ def inverse(a: int) -> Answer:
 
 
 def seventh_root(a: int) -> Answer:
-    """The seventh root of a word y is the word whose 7th power is y."""
+    """The word that gives this one when raised to the power 7 (Rules 7.1)."""
     if not is_word(a):
         return ("refused", 12)
     return ("word", pow(a, SEVENTH_ROOT_EXPONENT, P))

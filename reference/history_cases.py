@@ -15,7 +15,7 @@ follow, each of them one of
 where LEAF is a list, made in a buffer of 16 places, and RECORDS a list of seven
 numbers a record, its place and six words, made in one of 112.
 
-Each call knows the row that it is to be refused with, 0 for none.
+Each call knows the number that it is to be refused with, 0 for none.
 """
 
 from collections.abc import Iterator
@@ -36,7 +36,7 @@ REPLACE, PUSH = range(2)
 
 @dataclass
 class Replace:
-    """A replacement, and the row that is to refuse it."""
+    """A replacement, and the number that is to refuse it."""
 
     place: int
     leaf: Listed
@@ -49,7 +49,7 @@ class Replace:
 
 @dataclass
 class Push:
-    """A push, and the row that is to refuse it."""
+    """A push, and the number that is to refuse it."""
 
     records: Listed
     row: int = 0
@@ -123,7 +123,7 @@ def accepted_calls(caller: Caller) -> Iterator[Replace | Push]:
 
 
 def refused_replacements(caller: Caller) -> Iterator[Replace]:
-    """Rows 10, 11 and 12, and two at once."""
+    """10, 11 and 12, and two at once."""
     size, seed, places = caller.size, caller.seed(), caller.tree.places
     yield Replace(caller.place(), Listed(size + 1, seed), 10)
     yield Replace(places, Listed(size - 1, seed), 10)
@@ -132,7 +132,7 @@ def refused_replacements(caller: Caller) -> Iterator[Replace]:
 
 
 def refused_pushes(caller: Caller) -> Iterator[Push]:
-    """A record that no row lets pass, first, within or last; both rows at once, in both orders."""
+    """A record that is refused, first, within or last; 11 and 12 at once, in both orders."""
     size, places = caller.size, caller.tree.places
     for at, bad in ((0, places), (2, LARGEST), (3, places)):
         push = caller.push(*caller.spread(4))

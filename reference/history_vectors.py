@@ -12,9 +12,9 @@ end:
     place Q open A verify V read B B ... spoilt B B ... long B
 
 where A is an answer as in the sections that tree_vectors.py describes, with
-digests; M is how many records are lent; and DIGEST is that of the whole store
-after the call. V is the verdict on the store's last l words, the place, its leaf
-and its own opening. B is what a reader hands back, the digest of a level's part
+digests; M is how many records are handed in; and DIGEST is that of the whole
+store after the call. V is the verdict on the store's root, the place, its leaf
+and its opening. B is what a reader hands back, the digest of a level's part
 or `refused N`: of the opening for each level and one level too many; the same
 after its first number is p, if it has one; and for level 0 after one number more.
 The reference takes that leaf from the leaf book, which has
@@ -80,7 +80,7 @@ def readings(s: ParameterSet, siblings: list[int]) -> str:
 
 
 def place_line(s: ParameterSet, one: History, store: list[int], place: int, leaf: list[int]) -> str:
-    """A place's own opening, and the verdict on the book's leaf."""
+    """The opening of a place, and the verdict on the leaf that the book has there."""
     opened = written(merkle.opening, s, store, place, [7] * one.tree.siblings)
     judged = merkle.verify(s, store[-s.node_size :], place, leaf, opened[1])
     line = f"place {place} open {as_digest(opened)} verify {verdict(*judged)}"

@@ -1,9 +1,10 @@
-"""The trees of document 01: store, openings, verdicts, replacement, extractor.
+"""The trees (docs/RULES.md, 4 to 6 and 7.4): stores, openings, verdicts, replacements,
+pushes, extraction, and the leaf book.
 
 Leaves, stores, openings and rows are plain flat lists of words. An entry
-answers a pair: ("refused", r) with the first row r of the table that applies,
-after which every lent list keeps its contents, or what its docstring says.
-A replacement record is a pair (place, six words).
+answers a pair: ("refused", r) with the number r of the first refusal that
+applies, after which every list is as it was, or what its docstring says.
+A record is a pair (place, six words).
 """
 
 from field import all_words
@@ -17,7 +18,7 @@ Answer = tuple[str, object]
 MOST_RECORDS = 2**32
 
 
-# Where things are in a store: level 0, then level 1, up to the root.
+# Where things are in a store (Rules 4.2, 4.4).
 
 
 def level_nodes(s: ParameterSet, level: int) -> int:
@@ -32,22 +33,22 @@ def node_start(s: ParameterSet, level: int, index: int) -> int:
 
 
 def leaves_length(s: ParameterSet) -> int:
-    """The k^h leaves have l words each."""
+    """The words of all leaves."""
     return leaf_count(s) * s.node_size
 
 
 def store_length(s: ParameterSet) -> int:
-    """A store holds every level from the leaves to the root, l words a node."""
+    """The words of a store: up to the root, and the root's own."""
     return node_start(s, s.height, 0) + s.node_size
 
 
 def siblings_length(s: ParameterSet) -> int:
-    """An opening has h * (k - 1) * l words."""
+    """The words of an opening: k - 1 siblings at each level below the root."""
     return s.height * (arity(s) - 1) * s.node_size
 
 
 def is_place(s: ParameterSet, place: int) -> bool:
-    """A place q has 0 <= q < k^h."""
+    """Whether there is a leaf at this place."""
     return 0 <= place < leaf_count(s)
 
 
@@ -55,7 +56,7 @@ def is_place(s: ParameterSet, place: int) -> bool:
 
 
 def levels(s: ParameterSet, leaves: Words) -> list[Words]:
-    """Node i of level j + 1 compresses nodes k*i to k*i + k - 1 of level j."""
+    """All levels, each the compressions of the rows below it (Rules 4.3)."""
     made = [list(leaves)]
     for _ in range(s.height):
         rows = cut(made[-1], s.width)
@@ -64,7 +65,7 @@ def levels(s: ParameterSet, leaves: Words) -> list[Words]:
 
 
 def build(s: ParameterSet, leaves: Words, store: Words) -> Answer:
-    """Building writes the whole store from the k^h leaves: ("done", None)."""
+    """Building (Rules 4.5): ("done", None)."""
     row = row_of_set(s)
     if row is not None:
         return ("refused", row)
@@ -77,7 +78,7 @@ def build(s: ParameterSet, leaves: Words, store: Words) -> Answer:
 
 
 def root(s: ParameterSet, store: Words) -> Answer:
-    """The root is the store's last l words: ("words", root)."""
+    """The root that a store ends with (Rules 4.6): ("words", root)."""
     row = row_of_set(s)
     if row is not None:
         return ("refused", row)
@@ -90,7 +91,7 @@ def root(s: ParameterSet, store: Words) -> Answer:
 
 
 def node_from_leaves(s: ParameterSet, leaves: Words, level: int, index: int) -> Words:
-    """A node above the leaves is worked out from its row."""
+    """A leaf, or the compression of a row (Rules 7.4)."""
     if level == 0:
         return leaves[index * s.node_size : (index + 1) * s.node_size]
     return compression(s, row_from_leaves(s, leaves, level, index, arity(s)))
@@ -99,7 +100,7 @@ def node_from_leaves(s: ParameterSet, leaves: Words, level: int, index: int) -> 
 def row_from_leaves(
     s: ParameterSet, leaves: Words, level: int, index: int, children: int
 ) -> Words:
-    """A row is worked out from its nodes, here the first few children of a node."""
+    """The first few children of a node, one after another; all of them are a row."""
     if children == 0:
         return []
     before = row_from_leaves(s, leaves, level, index, children - 1)
@@ -108,7 +109,7 @@ def row_from_leaves(
 
 
 def storeless_root(s: ParameterSet, leaves: Words) -> Answer:
-    """The storeless root reads leaves only: ("words", root)."""
+    """The root of the leaves, without a store: ("words", root)."""
     row = row_of_set(s)
     if row is not None:
         return ("refused", row)
@@ -123,7 +124,7 @@ def storeless_root(s: ParameterSet, leaves: Words) -> Answer:
 
 
 def place_in_row(s: ParameterSet, place: int, level: int) -> int:
-    """Which of the k nodes of its row the node q div k^j is."""
+    """The position in its row of the level's node over a place (Rules 4.8)."""
     return place // arity(s) ** level % arity(s)
 
 
@@ -134,7 +135,7 @@ def stored_row(s: ParameterSet, store: Words, level: int, index: int) -> Words:
 
 
 def stored_siblings(s: ParameterSet, store: Words, place: int) -> Words:
-    """For each level the row containing node q div k^j, that node left out."""
+    """The siblings at each level, from the store (Rules 4.7)."""
     siblings = []
     for level in range(s.height):
         index = place // arity(s) ** level
@@ -145,7 +146,7 @@ def stored_siblings(s: ParameterSet, store: Words, place: int) -> Words:
 
 
 def opening(s: ParameterSet, store: Words, place: int, siblings: Words) -> Answer:
-    """The opening of a place is written to the lent siblings: ("done", None)."""
+    """The opening of a place is written to the list of siblings: ("done", None)."""
     row = row_of_set(s)
     if row is not None:
         return ("refused", row)
@@ -167,7 +168,7 @@ def level_part(s: ParameterSet, siblings: Words, level: int) -> Words:
 
 
 def read_opening(s: ParameterSet, siblings: Words, level: int) -> Answer:
-    """The opening reader hands back, and checks, one level's part: ("words", part)."""
+    """The opening reader (Rules 4.9): ("words", part)."""
     row = row_of_set(s)
     if row is not None:
         return ("refused", row)
@@ -184,7 +185,7 @@ def read_opening(s: ParameterSet, siblings: Words, level: int) -> Answer:
 def verdict_rows(
     s: ParameterSet, place: int, leaf: Words, siblings: Words
 ) -> tuple[list[Words], Words]:
-    """The leaf put back among its siblings at each level: the rows, and their end."""
+    """The path of a leaf (Rules 4.10): its rows, and the node that it ends in."""
     rows = []
     node = leaf
     for level in range(s.height):
@@ -198,7 +199,7 @@ def verdict_rows(
 def verify(
     s: ParameterSet, root: Words, place: int, leaf: Words, siblings: Words
 ) -> Answer:
-    """A verdict is ("accepted", None), ("rejected", None), or refused with its number."""
+    """The verdict (Rules 4.11): ("accepted", None) or ("rejected", None)."""
     row = row_of_set(s)
     if row is not None:
         return ("refused", row)
@@ -220,7 +221,7 @@ def verify(
 def write_node(
     s: ParameterSet, store: Words, level: int, index: int, count: int
 ) -> int:
-    """Compresses a row, writes its node and answers the count it is handed plus one."""
+    """One node rewritten from the row below it; the count goes up by one (Rules 5.1)."""
     start = node_start(s, level, index)
     row = stored_row(s, store, level - 1, index)
     store[start : start + s.node_size] = compression(s, row)
@@ -230,7 +231,7 @@ def write_node(
 def write_path(
     s: ParameterSet, store: Words, place: int, leaf: Words, count: int
 ) -> int:
-    """Writes the leaf at q and the h nodes above it; answers the count handed on."""
+    """A leaf written, and every node on the way to the root; the count after them."""
     start = node_start(s, 0, place)
     store[start : start + s.node_size] = leaf
     for level in range(1, s.height + 1):
@@ -239,7 +240,7 @@ def write_path(
 
 
 def replace(s: ParameterSet, store: Words, place: int, leaf: Words) -> Answer:
-    """A replacement reports the compressions made: ("count", n)."""
+    """A replacement (Rules 5.2): ("count", n)."""
     row = row_of_set(s)
     if row is not None:
         return ("refused", row)
@@ -253,13 +254,13 @@ def replace(s: ParameterSet, store: Words, place: int, leaf: Words) -> Answer:
 
 
 def record_leaf(s: ParameterSet, record: Record) -> Words:
-    """The first l of a record's six words are the leaf; the rest aren't read."""
+    """A record's leaf (Rules 5.3)."""
     _, words = record
     return words[: s.node_size]
 
 
 def push(s: ParameterSet, store: Words, records: list[Record]) -> Answer:
-    """Records are done in order; the count is h times the list's length: ("count", n)."""
+    """A push (Rules 5.4): ("count", n)."""
     row = row_of_set(s)
     if row is not None:
         return ("refused", row)
@@ -277,7 +278,7 @@ def push(s: ParameterSet, store: Words, records: list[Record]) -> Answer:
     return ("count", count)
 
 
-# The extractor.
+# Extraction.
 
 
 def extract(
@@ -291,7 +292,7 @@ def extract(
     first_row: Words,
     second_row: Words,
 ) -> Answer:
-    """The lowest level at which the two rows differ and compress alike: ("level", j)."""
+    """The lowest level where the leaves' rows collide (Rules 5.7): ("level", j)."""
     row = row_of_set(s)
     if row is not None:
         return ("refused", row)
@@ -329,12 +330,12 @@ def colliding_level(
     )
 
 
-# The leaf book: k^h leaves and nothing else, each a list of l words. It is fed
-# the set's numbers and each call's other arguments, never the store.
+# The leaf book (Rules 6.3 to 6.6), a list of leaves. None of these functions is
+# handed a store.
 
 
 def open_book(s: ParameterSet, leaves: Words) -> list[Words]:
-    """The book starts as the leaves handed to building."""
+    """The book at the beginning, of the leaves that building gets."""
     return cut(list(leaves), s.node_size)
 
 
@@ -346,7 +347,7 @@ def book_leaves(book: list[Words]) -> Words:
 def book_replace(
     s: ParameterSet, book: list[Words], place: int, leaf: Words
 ) -> Answer:
-    """The leaf goes to its place, and the answer is h."""
+    """A replacement in the book (Rules 6.4)."""
     if len(leaf) != s.node_size:
         return ("refused", 10)
     if not is_place(s, place):
@@ -358,7 +359,7 @@ def book_replace(
 
 
 def book_push(s: ParameterSet, book: list[Words], records: list[Record]) -> Answer:
-    """Each record's leaf goes to its place, in order; h times the number of records."""
+    """A push in the book (Rules 6.5)."""
     if len(records) > MOST_RECORDS:
         return ("refused", 10)
     if not all(is_place(s, place) for place, _ in records):

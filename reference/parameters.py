@@ -1,7 +1,6 @@
-"""The parameter set of document 01 and its judge.
+"""The parameter set and its validation (docs/RULES.md, section 2).
 
-The rows of the refusal table are tested in the table's order, so the first
-that applies is the lowest.
+Refusals are tested by rising number, so the first that applies is the lowest.
 """
 
 from dataclasses import dataclass
@@ -15,7 +14,7 @@ CONSTANT_PLACES = 208
 
 @dataclass
 class ParameterSet:
-    """The five numbers (t, l, h, R_F, R_P), 12 places for D and 208 for C."""
+    """The five numbers, 12 places for D and 208 for C (Rules 2.1, 2.5)."""
 
     width: int
     node_size: int
@@ -27,12 +26,12 @@ class ParameterSet:
 
 
 def constant_count(width: int, full_rounds: int, partial_rounds: int) -> int:
-    """C is t * R_F + R_P words."""
+    """How many constants C has: t for each full round and 1 for each partial one."""
     return width * full_rounds + partial_rounds
 
 
 def arity(s: ParameterSet) -> int:
-    """Arity k = t / l."""
+    """k, the nodes of a row (Rules 2.2)."""
     return s.width // s.node_size
 
 
@@ -42,19 +41,19 @@ def leaf_count(s: ParameterSet) -> int:
 
 
 def used_diagonal(s: ParameterSet) -> list[int]:
-    """The t places of D that are used; those beyond aren't read."""
+    """The first t places of D, the only ones that are read (Rules 2.7)."""
     return s.diagonal[: s.width]
 
 
 def used_constants(s: ParameterSet) -> list[int]:
-    """The t * R_F + R_P places of C that are used; those beyond aren't read."""
+    """The places of C that the rounds use, the only ones that are read (Rules 2.7)."""
     return s.constants[: constant_count(s.width, s.full_rounds, s.partial_rounds)]
 
 
 def row_of_numbers(
     width: int, node_size: int, height: int, full_rounds: int, partial_rounds: int
 ) -> int | None:
-    """Rows 1 to 5: the first that applies to the five numbers, or None."""
+    """1 to 5: the first that applies to the five numbers, or None."""
     if width not in (4, 8, 12):
         return 1
     if node_size == 0 or width % node_size != 0 or width // node_size < 2:
@@ -70,7 +69,7 @@ def row_of_numbers(
 
 @lru_cache
 def inverses_cancel(diagonal: tuple[int, ...]) -> bool:
-    """Row 9: 1 plus the inverses of all D is 0."""
+    """9: the inverses of D's words and 1 add up to 0."""
     total = 1
     for d in diagonal:
         total = (total + pow(d, -1, P)) % P
@@ -78,7 +77,7 @@ def inverses_cancel(diagonal: tuple[int, ...]) -> bool:
 
 
 def row_of_words(diagonal: list[int], constants: list[int]) -> int | None:
-    """Rows 7 to 9: the first that applies to the words of D and C, or None."""
+    """7 to 9: the first that applies to the words of D and C, or None."""
     if not all(is_word(n) for n in diagonal + constants):
         return 7
     if 0 in diagonal:
@@ -97,7 +96,7 @@ def validate(
     diagonal: list[int],
     constants: list[int],
 ) -> tuple[str, ParameterSet | int]:
-    """The judge takes the five numbers and both lists: ("set", s) or ("refused", r)."""
+    """Validation (Rules 2.4): ("set", s) or ("refused", r)."""
     row = row_of_numbers(width, node_size, height, full_rounds, partial_rounds)
     if row is not None:
         return ("refused", row)
@@ -122,12 +121,12 @@ def validate(
 
 
 def filled(words: list[int], places: int) -> list[int]:
-    """The words as they were handed in, and zero beyond their own count."""
+    """The words in their places, and 0 in the places after them."""
     return words + [0] * (places - len(words))
 
 
 def row_of_set(s: ParameterSet) -> int | None:
-    """Every other entry judges the set it is handed by the same rows (all but 6)."""
+    """What every entry tests of a set: validation's refusals but 6 (Rules 2.7)."""
     row = row_of_numbers(
         s.width, s.node_size, s.height, s.full_rounds, s.partial_rounds
     )

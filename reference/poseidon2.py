@@ -1,8 +1,8 @@
-"""The permutation of document 01, its inverse, and compression.
+"""The permutation, its inverse and compression (docs/RULES.md, 3, 4.1, 7.2, 7.3).
 
 The functions above the entries take words of an accepted set. The entries
-(permute, unpermute, compress) judge what they are handed and answer
-("words", list) or ("refused", r); they change nothing that is lent to them.
+(permute, unpermute, compress) test what they are handed and answer
+("words", list) or ("refused", r); they change none of the lists.
 """
 
 from operator import mul
@@ -38,7 +38,7 @@ def subtract(left: Words, right: Words) -> Words:
 
 
 def external_layer(state: Words) -> Words:
-    """M_E: M4 on each block; for 8 and 12 add to each the sum of all results."""
+    """M_E: M4 of every block; of several, each gets the sum of all (Rules 3.3)."""
     blocks = [times(M4, state[i : i + 4]) for i in range(0, len(state), 4)]
     if len(blocks) == 1:
         return blocks[0]
@@ -47,24 +47,24 @@ def external_layer(state: Words) -> Words:
 
 
 def internal_layer(diagonal: Words, state: Words) -> Words:
-    """M_I: word i becomes the sum of all words plus D_i times word i."""
+    """M_I: each word times its D_i, plus the words' sum (Rules 3.4)."""
     total = sum(state)
     return [(total + d * word) % P for d, word in zip(diagonal, state)]
 
 
 def full_round(constants: Words, state: Words) -> Words:
-    """Full round: add t constants, raise every word to the 7th power, apply M_E."""
+    """Constants added, every word to the power 7, M_E (Rules 3.5)."""
     return external_layer([pow(word, 7, P) for word in add(state, constants)])
 
 
 def partial_round(constant: int, diagonal: Words, state: Words) -> Words:
-    """Partial round: add one constant to word 0, raise word 0 alone, apply M_I."""
+    """Word 0 plus its constant, to the power 7, then M_I (Rules 3.6)."""
     raised = pow(state[0] + constant, 7, P)
     return internal_layer(diagonal, [raised] + state[1:])
 
 
 def round_constants(s: ParameterSet) -> tuple[Matrix, Words, Matrix]:
-    """C: the first half of the full rounds, the partial rounds, the second half."""
+    """C cut up by its use (Rules 3.8)."""
     constants = used_constants(s)
     half = s.width * (s.full_rounds // 2)
     first = constants[:half]
@@ -99,7 +99,7 @@ def remembered(work: Work) -> Work:
 
 @remembered
 def permutation(s: ParameterSet, state: Words) -> Words:
-    """Order: M_E; R_F/2 full; R_P partial; R_F/2 full."""
+    """M_E, then full, partial and again full rounds (Rules 3.7)."""
     first, partial, second = round_constants(s)
     state = external_layer(state)
     for constants in first:
@@ -112,7 +112,7 @@ def permutation(s: ParameterSet, state: Words) -> Words:
 
 
 def compression(s: ParameterSet, x: Words) -> Words:
-    """Compression: the first l words of permutation(x) + x."""
+    """x added to its permutation, and l words of that (Rules 4.1)."""
     return add(permutation(s, x), x)[: s.node_size]
 
 
@@ -161,7 +161,7 @@ def undo_partial_round(constant: int, internal_inverse: Matrix, state: Words) ->
 
 
 def inverse_permutation(s: ParameterSet, state: Words) -> Words:
-    """The inverse permutation returns the state whose permutation is given."""
+    """The permutation undone, the last step first (Rules 7.2)."""
     first, partial, second = round_constants(s)
     diagonal = used_diagonal(s)
     external_inverse = inverse_matrix(matrix_of(external_layer, s.width))
@@ -178,7 +178,7 @@ def inverse_permutation(s: ParameterSet, state: Words) -> Words:
 
 
 def row_of_state(s: ParameterSet, state: Words) -> int | None:
-    """The first row that applies to a set and a state handed in, or None."""
+    """The first refusal that applies to a set and a state handed in, or None."""
     row = row_of_set(s)
     if row is not None:
         return row
@@ -198,7 +198,7 @@ def permute(s: ParameterSet, state: Words) -> tuple[str, Words | int]:
 
 
 def unpermute(s: ParameterSet, state: Words) -> tuple[str, Words | int]:
-    """The state whose permutation is given."""
+    """The inverse permutation of a state of t words."""
     row = row_of_state(s, state)
     if row is not None:
         return ("refused", row)
@@ -208,7 +208,7 @@ def unpermute(s: ParameterSet, state: Words) -> tuple[str, Words | int]:
 def compress(
     s: ParameterSet, state: Words, node_length: int
 ) -> tuple[str, Words | int]:
-    """The compression of t words, to be written to a node that is lent in some length."""
+    """The compression of t words, for a node's buffer of this length."""
     row = row_of_set(s)
     if row is not None:
         return ("refused", row)

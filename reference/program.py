@@ -1,8 +1,4 @@
-"""The root program of document 01: bytes in, bytes out.
-
-It reads 8-byte little-endian numbers t, l, h, R_F, R_P, D, C, leaves, and
-prints the root's words in decimal, one a line, or `refused ` and the number.
-"""
+"""The root program (docs/RULES.md, 7.5 and 7.6): bytes in, bytes out."""
 
 import sys
 
@@ -13,18 +9,18 @@ MOST_BYTES = 65536
 
 
 def numbers_of(data: bytes) -> list[int]:
-    """8-byte little-endian numbers."""
+    """The numbers of some bytes, eight for each, the lowest first."""
     return [int.from_bytes(data[i : i + 8], "little") for i in range(0, len(data), 8)]
 
 
 def refused(row: int) -> bytes:
-    """`refused ` and the number, then a newline."""
+    """The line of a refusal."""
     return f"refused {row}\n".encode()
 
 
 def run(data: bytes) -> bytes:
     """The program's standard output for its standard input."""
-    # The byte count is tested before every other row.
+    # The byte count comes first.
     if len(data) < 40 or len(data) > MOST_BYTES or len(data) % 8 != 0:
         return refused(10)
     numbers = numbers_of(data)
@@ -32,8 +28,8 @@ def run(data: bytes) -> bytes:
     row = row_of_numbers(width, node_size, height, full_rounds, partial_rounds)
     if row is not None:
         return refused(row)
-    # An end within D or C leaves one of these two too short, and the judge
-    # answers 6.
+    # Where the numbers end too early one of these two is too short, and
+    # validation answers 6.
     diagonal_end = 5 + width
     constants_end = diagonal_end + constant_count(width, full_rounds, partial_rounds)
     kind, judged = validate(

@@ -1,9 +1,9 @@
 """The Poseidon2 authors' reference instances for Goldilocks, t = 8 and t = 12.
 
 p = 2^64 - 2^32 + 1. For each instance: the diagonal less one (D), the round
-constants in document 01's order (C: first half of the full rounds, partial
-rounds, second half), and known answers of the permutation, as pairs of the
-state handed in and the state that comes out.
+constants in the order of their use (C; docs/RULES.md, 3.8), and known answers
+of the permutation, as pairs of the state handed in and the state that comes
+out.
 """
 
 INSTANCES = [

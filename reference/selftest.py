@@ -1,4 +1,4 @@
-"""Checks the reference on document 01's worked cases and on published vectors.
+"""Checks the reference on the worked cases of docs/RULES.md and on published vectors.
 
 Each group below yields checks (name, got, expected). One line is printed for a
 group, one more for each check that failed, and the totals last.
@@ -36,19 +36,19 @@ T_NUMBERS = [4, 2, 1, 2, 0, 1, 2, 3, 4] + T_CONSTANTS
 
 
 def accepted(*arguments) -> ParameterSet:
-    """A set that the judge must accept."""
+    """A set that validation must accept."""
     kind, judged = validate(*arguments)
     assert kind == "set", (kind, judged)
     return judged
 
 
 def set_t() -> ParameterSet:
-    """T of document 01."""
+    """The set T (Rules 9)."""
     return accepted(4, 2, 1, 2, 0, [1, 2, 3, 4], T_CONSTANTS)
 
 
 def set_u() -> ParameterSet:
-    """U of document 01."""
+    """The set U (Rules 9)."""
     return accepted(4, 2, 1, 2, 1, [1, 2, 3, 4], U_CONSTANTS)
 
 
@@ -91,7 +91,7 @@ def program_input(numbers: list[int]) -> bytes:
     return b"".join(n.to_bytes(8, "little") for n in numbers)
 
 
-# The cases of "Worked by hand".
+# The worked cases (Rules 9).
 
 
 def worked_field() -> Iterator[Check]:
@@ -123,7 +123,7 @@ def worked_permutation() -> Iterator[Check]:
 
 
 def worked_tree() -> Iterator[Check]:
-    """The worked tree: leaves (1,0),(0,0) under T."""
+    """The worked tree: two leaves under T."""
     s = set_t()
     store = built(s, [1, 0, 0, 0])
     yield "store", store, [1, 0, 0, 0, 6, 4]
@@ -141,7 +141,7 @@ def worked_program() -> Iterator[Check]:
 
 
 def worked_judge() -> Iterator[Check]:
-    """The worked cases of the judge."""
+    """The worked cases of validation."""
     got = validate(4, 2, 1, 2, 0, [P - 4] * 4, T_CONSTANTS)
     yield "D all p-4", got, ("refused", 9)
     numbers = [1, 2, 3, 4], T_CONSTANTS
@@ -153,7 +153,7 @@ def worked_judge() -> Iterator[Check]:
 
 
 def worked_place() -> Iterator[Check]:
-    """Place 2 under T: 11, in every entry that takes a place."""
+    """T has no place 2: every entry that takes a place refuses it with 11."""
     s = set_t()
     store = built(s, [1, 0, 0, 0])
     gone = ("refused", 11)
@@ -167,7 +167,7 @@ def worked_place() -> Iterator[Check]:
 
 
 def worked_word() -> Iterator[Check]:
-    """A word p: 12; p-1 fits."""
+    """p is refused with 12 wherever a word is wanted, and p - 1 is not."""
     s = set_t()
     for n, fits in ((P, False), (P - 1, True)):
         store = built(s, [1, 0, 0, 0])
@@ -214,7 +214,7 @@ def published_instances() -> Iterator[Check]:
             yield name + " back", poseidon2.unpermute(s, after), ("words", before)
 
 
-# Further checks of the reference against document 01's sentences.
+# Further checks of the reference against the rules.
 
 
 def field_rules() -> Iterator[Check]:
@@ -235,7 +235,7 @@ def field_rules() -> Iterator[Check]:
 
 
 def judge_rows() -> Iterator[Check]:
-    """Each row of the judge, and the lowest where several apply."""
+    """Each refusal of validation, and the lowest where several apply."""
     d, c = [1, 2, 3, 4], T_CONSTANTS
     huge = 2**64 - 1
     cases = [
@@ -272,7 +272,7 @@ def judge_rows() -> Iterator[Check]:
 
 
 def handed_sets() -> Iterator[Check]:
-    """A set handed in is judged by the same rows but 6, on its used places only."""
+    """A set handed in has the same refusals but 6, on its used places only."""
     s = set_t()
     yield "T", row_of_set(s), None
     s.diagonal[4:] = [0, P] * 4
@@ -301,7 +301,7 @@ def handed_sets() -> Iterator[Check]:
 
 
 def inverse_permutations() -> Iterator[Check]:
-    """The inverse permutation returns the state whose permutation is given."""
+    """The permutation and its inverse undo each other."""
     rng = random.Random(2)
     for width in (4, 8, 12):
         for full, partial in ((2, 0), (4, 3), (12, 64)):
@@ -335,7 +335,7 @@ TREE_SHAPES = [
 
 
 def vectors_cases() -> Iterator[Check]:
-    """Each case is refused with the row that it is made for; all of its input fits."""
+    """Each case is refused with the number that it is made for; all of its input fits."""
     for _, case in cases.sets_cases():
         kind, answer = validate(*case.validated())
         yield f"validate {case}", 0 if kind == "set" else answer, case.row
@@ -353,7 +353,7 @@ def fitting(sections: list) -> Check:
 
 
 def tree_vectors_cases() -> Iterator[Check]:
-    """Each call of the section trees is refused with the rows that it is made for; all fits."""
+    """Each call of the section trees is refused with the numbers that it is made for; all fits."""
     for what, case in tree_cases.trees_cases():
         if what == tree_cases.CALLS:
             called, (_, row) = tree_vectors.calls_of(case)
@@ -363,8 +363,8 @@ def tree_vectors_cases() -> Iterator[Check]:
 
 
 def replacements() -> Iterator[Check]:
-    """Each replacement is refused with its row and keeps the store, or does h compressions. In the
-    end the store is what building writes from the book."""
+    """Each replacement is refused with its number and keeps the store, or does h compressions. In
+    the end the store is what building writes from the book."""
     for _, case in tree_cases.replacements_cases():
         s, leaves = case.tree.case.handed(), case.tree.leaves.numbers(tree_cases.TREE_PLACES)
         (row, store), calls = tree_vectors.called_in_order(case)
@@ -382,7 +382,7 @@ def replacements() -> Iterator[Check]:
 
 
 def extractions() -> Iterator[Check]:
-    """Each extraction is refused with its row and keeps both buffers, or gives its level."""
+    """Each extraction is refused with its number and keeps both buffers, or gives its level."""
     for _, one in tree_cases.extractions_cases():
         answer, first, second = tree_vectors.extracted(one)
         if one.row:
@@ -461,7 +461,7 @@ def leaf_book() -> Iterator[Check]:
 
 
 def histories() -> Iterator[Check]:
-    """The cases of history_vectors: each call's row, the book's answers, the store at the end."""
+    """The cases of history_vectors: the refusals, the book's answers, the store at the end."""
     for n, one in enumerate(history_cases.histories()):
         s, leaves, (_, store) = history_vectors.begun(one)
         book = merkle.open_book(s, leaves)
@@ -494,7 +494,7 @@ def seeded_call(
 
 
 def tree_refusals() -> Iterator[Check]:
-    """The tree entries' rows 10 to 12, the lowest first; lent lists stay as they were."""
+    """The tree entries' refusals 10 to 12, the lowest first; every list stays as it was."""
     s = accepted(4, 2, 2, 2, 0, [1, 2, 3, 4], T_CONSTANTS)
     store = built(s, [1, 2, 3, 4, 5, 6, 7, 8])
     root = store[-2:]
@@ -558,7 +558,7 @@ def tree_refusals() -> Iterator[Check]:
 
 
 def program_refusals() -> Iterator[Check]:
-    """The root program's rows, the byte count first."""
+    """The root program's refusals, the byte count first."""
     whole = program_input(T_NUMBERS + [1, 0, 0, 0])
     cases = [
         ("39 bytes", whole[:39], 10),

@@ -22,13 +22,13 @@ CALLs follow, each of them
     FAULT VALUE STORE PLACE LEAF
 
 where VALUE is written at place FAULT - 1 of the store before the call, unless
-FAULT is 0; STORE is how many of the store's numbers are lent; and LEAF is a
+FAULT is 0; STORE is how many of the store's numbers are handed in; and LEAF is a
 list. OFFER is the two lists of a leaf and its siblings, and ROW the length of a
 row buffer, each of whose numbers is 7 before. The lists of a tree are made in
 buffers of 1024 places, those of an extraction in buffers of 64, and the leaf of
 a replacement in one of 16, as is a row.
 
-Each case knows the rows that it is to be refused with, 0 for none, and an
+Each case knows the numbers that it is to be refused with, 0 for none, and an
 extraction its level.
 """
 
@@ -82,7 +82,7 @@ class Tree:
 
 @dataclass
 class Calls:
-    """A set, and what each of the entries of a tree is handed; `rows` are those that refuse
+    """A set, and what each of the entries of a tree is handed; `rows` are the numbers that refuse
     build, root, storeless_root, open and verify, 0 for none."""
 
     case: Case
@@ -195,7 +195,7 @@ def refused_words() -> Iterator[Calls]:
 
 
 def refused_twice() -> Iterator[Calls]:
-    """Two rows at once: the lower one is answered."""
+    """Two refusals at once: the lower one is answered."""
     base = (4, 2, 2)
     lengths = [("leaves", 1, 0), ("siblings", 1, 0)]
     yield seeded_calls(base, [*lengths, ("store", 0, 13)], "10 12 10 10 10", 4)
@@ -204,7 +204,7 @@ def refused_twice() -> Iterator[Calls]:
 
 
 def refused_sets() -> Iterator[Calls]:
-    """A set that a row turns back, and a fault more."""
+    """A set that is refused, and a fault more."""
     base = (4, 2, 1)
     for row, ways in set_faults(seeded(*base, 2, 0, 5)).items():
         more = [("leaves", row % 2, 0), ("siblings", 0, 0)] if row in (1, 5, 9) else []
@@ -229,7 +229,7 @@ def trees_cases() -> Iterator[tuple[int, Tree | Calls]]:
 @dataclass
 class Replacement:
     """A call on a store: its first numbers, a place and a leaf, after a value is written at the
-    place `fault` - 1 of the store; the row that is to refuse it."""
+    place `fault` - 1 of the store; the number that is to refuse it."""
 
     store: int
     place: int
@@ -294,7 +294,7 @@ class Caller:
 
 
 def argument_faults(caller: Caller, by: int) -> Iterator[Replacement]:
-    """Rows 10 to 12 by the arguments, alone and the lowest of two, between accepted calls."""
+    """10 to 12 by the arguments, alone and the lowest of two, between accepted calls."""
     places, last = caller.tree.places, caller.tree.case.node_size - 1
     place = caller.place()
     yield caller.call(place)
@@ -345,7 +345,7 @@ def seeded_replacements() -> Iterator[Replacements]:
 
 
 def replacements_in_refused_sets() -> Iterator[Replacements]:
-    """A set that a row turns back, for an accepted call and for one with a fault more."""
+    """A set that is refused, for a call without a fault and for one with a fault more."""
     for row, ways in set_faults(seeded(4, 2, 1, 2, 0, 5)).items():
         tree = seeded_tree(4, 2, 1, 2, 0, 5)
         caller = Caller(tree, row)
@@ -367,7 +367,7 @@ def replacements_cases() -> Iterator[tuple[int, Replacements]]:
 @dataclass
 class Extraction:
     """A set, a root, a place, two leaves with their siblings, and the lengths of two row buffers;
-    the row that is to refuse it, or the level that is to be given."""
+    the number that is to refuse it, or the level that is to be given."""
 
     case: Case
     lists: dict[str, Listed]
@@ -450,7 +450,7 @@ def extractions_at_two_levels() -> Iterator[Extraction]:
 
 
 def extractions_of_a_leaf() -> Iterator[Extraction]:
-    """The leaves differ, and no sibling does. Places beyond the used ones may hold anything."""
+    """The leaves differ, and no sibling does. The places that aren't used hold p."""
     for t, l in ((4, 1), (8, 2), (12, 6)):
         one = extraction(nodes_apart(t, l, 1, (0,)))
         one.case.beyond = P
@@ -541,7 +541,7 @@ def drawn_extraction(width: int, node_size: int, height: int) -> Extraction:
 
 
 def extractions_of_lists() -> Iterator[Extraction]:
-    """Rows 10 to 12, each list in turn, and two rows at once."""
+    """10 to 12, each list in turn, and two refusals at once."""
     base = drawn_extraction(8, 4, 2)
     yield base
     for by in (-1, 1):
@@ -566,7 +566,7 @@ def extractions_of_lists() -> Iterator[Extraction]:
 
 
 def refused_openings() -> Iterator[Extraction]:
-    """Rows 10 to 15 on openings that collide."""
+    """10 to 15 on openings that collide."""
     base = extraction(meeting_at(4, 2, 1, 0, 0))
     for fault in (resized("root", 1), resized("first_siblings", 1), resized_row(0, 1)):
         yield turned_back(base, 10, fault)
@@ -581,7 +581,7 @@ def refused_openings() -> Iterator[Extraction]:
     zero = extraction(nodes_apart(4, 1, 1, (0,)))
     yield turned_back(zero, 12, spoilt("first_siblings", -1))
     yield turned_back(zero, 12, spoilt("second_siblings", -1))
-    # The leaves are equal, and the rows differ and compress alike.
+    # The leaves are equal, and their rows collide.
     yield turned_back(extraction(nodes_apart(4, 2, 1, (1,))), 15)
 
 

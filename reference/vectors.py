@@ -5,7 +5,7 @@ Numbers are in decimal without leading zeros or signs. The parts of a line are
 separated by one space, and no line begins or ends with a space. There are no
 empty lines. Throughout, p = 18446744069414584321.
 
-The output is a row of sections, in the order given here. Each section begins
+The output is sections one after another, in the order given here. Each begins
 with a header line: the word `section`, and the section's name.
 
 SECTION field
@@ -15,7 +15,7 @@ sum, difference, product, power, inverse, seventh_root. The first four have two
 operands A and B (for power, A is the base and B the exponent), the last two
 have one operand A. An operand may be any number from 0 to 2^64 - 1, whether a
 word or not. An entry's answer is a word R or a refusal number N (12 or 13):
-12 if an operand isn't a word (a power's exponent is free), else 13 for the
+12 if an operand isn't a word (an exponent need not be one), else 13 for the
 inverse of 0.
 
 Part 1, lines with operands. The line of a case is one of
@@ -56,7 +56,7 @@ The section has 1 + 9 + 4 * 64 + 2 * 8 + 6 * 2001 = 12288 lines.
 
 The other sections are driven by the program's input, which cases.py makes and
 whose grammar its docstring gives: a line of the input is a line of the output.
-An entry that is turned back is printed as ` refused N`, where N is the row's
+A call that is refused is printed as ` refused N`, where N is the refusal's
 number. The digest of a list of numbers starts with d = 1 and does, for each
 number x in order, d = 31 * d + x modulo 2^64.
 
@@ -217,7 +217,7 @@ def sets_section() -> Iterator[str]:
             yield case_line(case, "validate", "refused", str(answer))
 
 
-# An entry's answer and the buffer after the call: a row that refuses, or None.
+# An entry's answer and the buffer after the call: a refusal's number, or None.
 Called = tuple[int | None, list[int]]
 
 

@@ -27,12 +27,12 @@ Input = tuple[str, bytes]
 
 
 def packed(numbers: list[int]) -> bytes:
-    """8-byte little-endian numbers."""
+    """The bytes of some numbers, eight for each, the lowest first."""
     return b"".join(n.to_bytes(8, "little") for n in numbers)
 
 
 def worked() -> list[int]:
-    """T of document 01, and the words 1, 0, 0, 0."""
+    """The set T and the leaves of its worked case (docs/RULES.md, 9)."""
     constants = [0, 0, 0, 0, P - 505316, P - 410806, P - 127289, P - 94519]
     return [4, 2, 1, 2, 0] + [1, 2, 3, 4] + constants + [1, 0, 0, 0]
 
@@ -105,7 +105,7 @@ def changed(numbers: list[int], place: int, value: int) -> list[int]:
 
 
 def five_changed() -> Iterator[Input]:
-    """Each of the five numbers at an edge: rows 1 to 6, 10 and what is accepted."""
+    """Each of the five numbers at an edge: 1 to 6, 10 and what is accepted."""
     for place, name in enumerate(["t", "l", "h", "R_F", "R_P"]):
         for value in EDGES + [4, 8, 12, 14, 16, 32, 33]:
             yield f"{name}={value}", packed(changed(worked(), place, value))
@@ -116,7 +116,7 @@ def five_changed() -> Iterator[Input]:
 
 
 def words_changed() -> Iterator[Input]:
-    """Words of D, C and the leaves at edges: rows 7, 8, 9 and 12."""
+    """Words of D, C and the leaves at edges: 7, 8, 9 and 12."""
     for place in [5, 8, 9, 16, 17, 20]:
         for value in [0, P - 1, P, LARGEST]:
             yield f"number {place} is {value}", packed(changed(worked(), place, value))
