@@ -9,5 +9,5 @@ trap 'rm -f "$log"' EXIT
 cargo test --release --offline -- --nocapture >"$log" 2>&1 || { cat "$log"; exit 1; }
 cat "$log"
 said=$(cargo run --release --offline --quiet --example first)
-[ "$said" = 'root [6, 4], Accepted' ] || { printf 'the first example says: %s\n' "$said"; exit 1; }
+[ "$said" = 'root [6, 4], accepted' ] || { printf 'the first example says: %s\n' "$said"; exit 1; }
 sed -n 's/^test result: ok\. \([0-9]*\) passed; 0 failed.*/\1/p' "$log" | awk '{ sum += $1 } END { printf "%d passed, 0 failed\n", sum + 1 }'

@@ -1,6 +1,6 @@
-use opening_tree::{field::P, ParameterSet, Refusal, SetNumbers, Tree};
+use opening_tree::{field::P, NotAccepted, ParameterSet, SetNumbers, Tree};
 
-fn main() -> Result<(), Refusal> {
+fn main() -> Result<(), NotAccepted> {
     let set = ParameterSet::new(SetNumbers {
         width: 4,
         node_size: 2,
@@ -12,7 +12,7 @@ fn main() -> Result<(), Refusal> {
     })?;
     let tree = Tree::build(&set, &[1, 0, 0, 0])?; // two leaves of two words
     let (root, opening) = (tree.root(), tree.open(0)?);
-    let verdict = set.verify(&root, &[1, 0], &opening)?;
-    println!("root {:?}, {:?}", root.words(), verdict);
+    set.verify(&root, &[1, 0], &opening)?; // an error unless the opening is accepted
+    println!("root {:?}, accepted", root.words());
     Ok(())
 }

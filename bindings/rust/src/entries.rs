@@ -28,6 +28,7 @@
 use crate::record::Record;
 use crate::refusal::Refusal;
 use crate::sys;
+use crate::verdict::Verdict;
 
 /// The numbers of a parameter set, as they were handed in.
 #[derive(Clone, Copy, Debug, PartialEq, Eq, Hash)]
@@ -46,23 +47,6 @@ pub struct SetNumbers<'a> {
     pub diagonal: &'a [u64],
     /// C: t × R_F + R_P words in order of use.
     pub constants: &'a [u64],
-}
-
-/// Whether an opening ends in the root.
-#[derive(Clone, Copy, Debug, PartialEq, Eq, Hash)]
-#[must_use]
-pub enum Verdict {
-    /// The leaf, put back among its siblings at each level, ends in the root.
-    Accepted,
-    /// It ends in another node.
-    Rejected,
-}
-
-impl Verdict {
-    /// Whether this is `Accepted`.
-    pub const fn is_accepted(self) -> bool {
-        matches!(self, Verdict::Accepted)
-    }
 }
 
 /// What `opening_tree_verify` alone returns besides 0 and the rows.
@@ -85,11 +69,11 @@ fn done(number: u8) -> Result<(), Refusal> {
 }
 
 /// What the returned number of `opening_tree_verify` says.
-fn verdict(number: u8) -> Result<Verdict, Refusal> {
+fn verdict(number: u8) -> Verdict {
     match number {
-        0 => Ok(Verdict::Accepted),
-        REJECTED => Ok(Verdict::Rejected),
-        _ => Err(refusal(number)),
+        0 => Verdict::Accepted,
+        REJECTED => Verdict::Rejected,
+        _ => Verdict::Refused(refusal(number)),
     }
 }
 
@@ -203,8 +187,8 @@ pub fn open(set: &SetNumbers, store: &[u64], place: u64, siblings: &mut [u64]) -
     done(unsafe { call!(opening_tree_open, set, store.as_ptr(), store.len(), place, siblings.as_mut_ptr(), siblings.len()) })
 }
 
-/// Whether the leaf stood at the place under the root. Rows 1 to 12.
-pub fn verify(set: &SetNumbers, root: &[u64], place: u64, leaf: &[u64], siblings: &[u64]) -> Result<Verdict, Refusal> {
+/// Whether the leaf stood at the place under the root: `Verdict::Accepted` and nothing else is a yes. Rows 1 to 12.
+pub fn verify(set: &SetNumbers, root: &[u64], place: u64, leaf: &[u64], siblings: &[u64]) -> Verdict {
     // SAFETY: each pointer comes with its slice's length, and nothing is written.
     verdict(unsafe {
         call!(
@@ -315,11 +299,11 @@ mod tests {
     #[test]
     fn returned_numbers_are_read() {
         assert_eq!(done(0), Ok(()));
-        assert_eq!(verdict(0), Ok(Verdict::Accepted));
-        assert_eq!(verdict(255), Ok(Verdict::Rejected));
+        assert_eq!(verdict(0), Verdict::Accepted);
+        assert_eq!(verdict(255), Verdict::Rejected);
         for refusal in Refusal::ALL {
             assert_eq!(done(refusal.number()), Err(refusal));
-            assert_eq!(verdict(refusal.number()), Err(refusal));
+            assert_eq!(verdict(refusal.number()), Verdict::Refused(refusal));
         }
     }
 

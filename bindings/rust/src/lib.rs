@@ -3,7 +3,7 @@
 //! A tree keeps one root, a few words, for all its leaves; an opening shows later that a leaf stood at a place.
 //!
 //! ```
-//! use opening_tree::{field::P, ParameterSet, Refusal, SetNumbers, Tree, Verdict};
+//! use opening_tree::{field::P, NotAccepted, ParameterSet, SetNumbers, Tree};
 //!
 //! let set = ParameterSet::new(SetNumbers {
 //!     width: 4,
@@ -17,14 +17,17 @@
 //! let tree = Tree::build(&set, &[1, 0, 0, 0])?; // the leaves (1, 0) and (0, 0)
 //! let (root, opening) = (tree.root(), tree.open(1)?);
 //! assert_eq!((root.words(), &opening.siblings[..]), (&[6, 4][..], &[1, 0][..]));
-//! assert_eq!(set.verify(&root, &[0, 0], &opening)?, Verdict::Accepted);
-//! assert_eq!(set.verify(&root, &[0, 1], &opening)?, Verdict::Rejected);
-//! # Ok::<(), Refusal>(())
+//! set.verify(&root, &[0, 0], &opening)?; // an error unless the opening is accepted
+//! assert_eq!(set.verify(&root, &[0, 1], &opening), Err(NotAccepted::Rejected));
+//! # Ok::<(), NotAccepted>(())
 //! ```
 //!
 //! Any numbers may be handed in. A call is done, or refused by a [`Refusal`], a row of one table; after a refusal every buffer and
-//! every tree is as it was. The types here are for numbers that are kept together; [`entries`] has the library's nineteen functions
-//! over plain slices, for buffers of one's own. [`field`] is the arithmetic.
+//! every tree is as it was. A verification is `Ok` for an opening that is accepted and for nothing else: one that is rejected or refused
+//! is an error, [`NotAccepted`].
+//!
+//! The types here are for numbers that are kept together; [`entries`] has the library's nineteen functions over plain slices, for
+//! buffers of one's own. [`field`] is the arithmetic.
 //!
 //! The constants of the examples are easy to follow and not safe: choosing safe ones is the caller's part.
 
@@ -43,10 +46,12 @@ mod refusal;
 mod set;
 mod sys;
 mod tree;
+mod verdict;
 
-pub use entries::{SetNumbers, Verdict};
+pub use entries::SetNumbers;
 pub use opening::{Collision, Offer, Opening, Root};
 pub use record::Record;
 pub use refusal::Refusal;
 pub use set::ParameterSet;
 pub use tree::Tree;
+pub use verdict::{NotAccepted, Verdict};

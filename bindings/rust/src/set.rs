@@ -1,8 +1,9 @@
 //! Parameter sets that are validated, and what needs no tree.
 
-use crate::entries::{self, SetNumbers, Verdict};
+use crate::entries::{self, SetNumbers};
 use crate::opening::{Collision, Offer, Opening, Root};
 use crate::refusal::Refusal;
+use crate::verdict::NotAccepted;
 
 /// A parameter set that is validated.
 ///
@@ -158,9 +159,34 @@ impl ParameterSet {
         Ok(Root::from(node))
     }
 
-    /// Whether the leaf stood at the opening's place under the root. Rows 10 to 12.
-    pub fn verify(&self, root: &Root, leaf: &[u64], opening: &Opening) -> Result<Verdict, Refusal> {
-        entries::verify(&self.numbers(), root.words(), opening.place, leaf, &opening.siblings)
+    /// `Ok` where the leaf stood at the opening's place under the root, and nowhere else: an opening that is rejected or refused is an
+    /// error. Rows 10 to 12.
+    ///
+    /// ```
+    /// # use opening_tree::{ParameterSet, SetNumbers};
+    /// use opening_tree::{NotAccepted, Opening, Refusal, Tree};
+    ///
+    /// # let (diagonal, constants) = (&[1, 2, 3, 4], &[0; 8]);
+    /// # let set = ParameterSet::new(SetNumbers {
+    /// #     width: 4, node_size: 2, height: 1, full_rounds: 2, partial_rounds: 0, diagonal, constants,
+    /// # })?;
+    /// let tree = Tree::build(&set, &[1, 2, 3, 4])?;
+    /// let (root, opening) = (tree.root(), tree.open(0)?);
+    /// assert!(set.verify(&root, &[1, 2], &opening).is_ok());
+    ///
+    /// // Another leaf is rejected, and a rejected opening is not `Ok`.
+    /// let rejected = set.verify(&root, &[1, 3], &opening);
+    /// assert!(!rejected.is_ok());
+    /// assert_eq!(rejected, Err(NotAccepted::Rejected));
+    ///
+    /// // There is no place 2, and a refused opening is not `Ok` either.
+    /// let refused = set.verify(&root, &[1, 2], &Opening { place: 2, ..opening });
+    /// assert_eq!(refused, Err(NotAccepted::Refused(Refusal::BadPlace)));
+    /// # Ok::<(), NotAccepted>(())
+    /// ```
+    #[must_use = "only `Ok` says that the leaf stood at the place"]
+    pub fn verify(&self, root: &Root, leaf: &[u64], opening: &Opening) -> Result<(), NotAccepted> {
+        entries::verify(&self.numbers(), root.words(), opening.place, leaf, &opening.siblings).into_result()
     }
 
     /// The siblings of one level, k - 1 nodes. No number of another level is looked at. Rows 10, 11 for a level not below h, and 12.

@@ -5,7 +5,7 @@ mod support;
 
 use model::field::is_word;
 use model::set::Set;
-use opening_tree::{ParameterSet, Record, Refusal, SetNumbers, Tree, Verdict};
+use opening_tree::{NotAccepted, ParameterSet, Record, Refusal, SetNumbers, Tree};
 use support::cases::{set_of, SHAPES};
 use support::generator::Generator;
 
@@ -90,10 +90,10 @@ fn compare(tree: &Tree, book: &Book) {
     for (place, leaf) in (0..).zip(&book.leaves) {
         assert_eq!(tree.leaf(place), Ok(&leaf[..]));
         let opening = tree.open(place).expect("a place of the tree");
-        assert_eq!(set.verify(&tree.root(), leaf, &opening), Ok(Verdict::Accepted));
+        assert_eq!(set.verify(&tree.root(), leaf, &opening), Ok(()));
         let mut other = leaf.clone();
         other[0] = model::field::add(other[0], 1);
-        assert_eq!(set.verify(&tree.root(), &other, &opening), Ok(Verdict::Rejected));
+        assert_eq!(set.verify(&tree.root(), &other, &opening), Err(NotAccepted::Rejected));
     }
 }
 

@@ -2,9 +2,11 @@
 
 mod model;
 
+use std::error::Error;
+
 use opening_tree::entries;
 use opening_tree::field::{self, P};
-use opening_tree::{Collision, Offer, Opening, ParameterSet, Record, Refusal, Root, SetNumbers, Tree, Verdict};
+use opening_tree::{Collision, NotAccepted, Offer, Opening, ParameterSet, Record, Refusal, Root, SetNumbers, Tree, Verdict};
 
 /// The set T.
 const T: SetNumbers = SetNumbers {
@@ -110,12 +112,54 @@ fn root_openings_and_verdicts() {
     assert_eq!(tree.leaf(0), Ok(&[1, 0][..]));
     assert_eq!(tree.leaf(1), Ok(&[0, 0][..]));
 
-    let opening = tree.open(0).expect("a place of the tree");
-    assert_eq!(set.verify(&root, &[1, 0], &opening), Ok(Verdict::Accepted));
-    assert_eq!(set.verify(&root, &[0, 1], &opening), Ok(Verdict::Rejected));
-    assert_eq!(set.verify(&Root::from(vec![6, 5]), &[1, 0], &opening), Ok(Verdict::Rejected));
-    assert_eq!(set.verify(&root, &[1, 0], &Opening { place: 1, ..opening }), Ok(Verdict::Rejected));
     assert_eq!(set.read_level(&tree.open(1).expect("a place of the tree"), 0), Ok(vec![1, 0]));
+}
+
+/// A function that asks for a verdict by `?`, and goes on only after a yes.
+fn merged(set: &ParameterSet, root: &Root, leaf: &[u64], opening: &Opening) -> Result<&'static str, Box<dyn Error>> {
+    set.verify(root, leaf, opening)?;
+    Ok("merged")
+}
+
+#[test]
+fn yes_is_the_only_ok() {
+    let set = set(T);
+    let (root, leaf) = (Root::from(vec![6, 4]), [1, 0]);
+    let opening = Opening { place: 0, siblings: vec![0, 0] };
+    assert_eq!(set.verify(&root, &leaf, &opening), Ok(()));
+    assert_eq!(merged(&set, &root, &leaf, &opening).expect("accepted"), "merged");
+
+    let none = |why: NotAccepted, root: &Root, leaf: &[u64], opening: &Opening| {
+        assert!(set.verify(root, leaf, opening).is_err());
+        assert_eq!(set.verify(root, leaf, opening), Err(why));
+        let error = merged(&set, root, leaf, opening).expect_err("not accepted");
+        assert_eq!(error.to_string(), why.to_string());
+        let verdict = entries::verify(&T, root.words(), opening.place, leaf, &opening.siblings);
+        assert!(!verdict.is_accepted());
+        assert_eq!(verdict.into_result(), Err(why));
+    };
+    let with = |place: u64, siblings: &[u64]| Opening { place, siblings: siblings.to_vec() };
+    none(NotAccepted::Rejected, &root, &[0, 1], &opening);
+    none(NotAccepted::Rejected, &Root::from(vec![6, 5]), &leaf, &opening);
+    none(NotAccepted::Rejected, &root, &leaf, &with(1, &[0, 0]));
+    none(NotAccepted::Rejected, &root, &leaf, &with(0, &[0, 1]));
+    none(NotAccepted::Refused(Refusal::BadLength), &root, &[1], &opening);
+    none(NotAccepted::Refused(Refusal::BadLength), &Root::from(vec![]), &leaf, &opening);
+    none(NotAccepted::Refused(Refusal::BadLength), &root, &leaf, &with(0, &[]));
+    none(NotAccepted::Refused(Refusal::BadPlace), &root, &leaf, &with(2, &[0, 0]));
+    none(NotAccepted::Refused(Refusal::NotAWord), &root, &[P + 1, 0], &opening);
+    none(NotAccepted::Refused(Refusal::NotAWord), &root, &leaf, &with(0, &[0, P]));
+}
+
+#[test]
+fn every_refusal_is_a_reason() {
+    for refusal in Refusal::ALL {
+        let why = NotAccepted::from(refusal);
+        assert_eq!(why, NotAccepted::Refused(refusal));
+        assert_eq!(why.source().and_then(|source| source.downcast_ref()), Some(&refusal));
+        assert_eq!(why.to_string(), format!("refused by row {}", refusal.number()));
+    }
+    assert!(NotAccepted::Rejected.source().is_none());
 }
 
 #[test]
@@ -163,7 +207,7 @@ fn a_collision_above_the_leaves() {
     let root = Root::from(&WEAK_ROOT[..]);
     for offer in [FIRST, SECOND] {
         let opening = Opening { place: WEAK_PLACE, siblings: offer.siblings.to_vec() };
-        assert_eq!(set.verify(&root, offer.leaf, &opening), Ok(Verdict::Accepted));
+        assert_eq!(set.verify(&root, offer.leaf, &opening), Ok(()));
     }
     // The leaves are at odd places, so that the siblings come first.
     let row = |offer: Offer| {
@@ -210,7 +254,9 @@ fn every_function_gives_a_known_answer() {
     let mut siblings = [9; 2];
     assert_eq!(entries::open(&T, &store, 1, &mut siblings), Ok(()));
     assert_eq!(siblings, [1, 0]);
-    assert_eq!(entries::verify(&T, &node, 1, &[0, 0], &siblings), Ok(Verdict::Accepted));
+    assert_eq!(entries::verify(&T, &node, 1, &[0, 0], &siblings), Verdict::Accepted);
+    assert_eq!(entries::verify(&T, &node, 0, &[0, 0], &siblings), Verdict::Rejected);
+    assert_eq!(entries::verify(&T, &node, 2, &[0, 0], &siblings), Verdict::Refused(Refusal::BadPlace));
     let mut part = [9; 2];
     assert_eq!(entries::read_level(&T, &siblings, 0, &mut part), Ok(()));
     assert_eq!(part, [1, 0]);

@@ -1,7 +1,7 @@
 //! A call of any function, made to the library or to the model.
 
-use opening_tree::entries::{self, SetNumbers, Verdict};
-use opening_tree::Refusal;
+use opening_tree::entries::{self, SetNumbers};
+use opening_tree::{Refusal, Verdict};
 
 use crate::model;
 use crate::model::set::Set;
@@ -108,6 +108,16 @@ impl From<Result<bool, u8>> for Answer {
     }
 }
 
+impl From<Verdict> for Answer {
+    fn from(verdict: Verdict) -> Answer {
+        match verdict {
+            Verdict::Accepted => Answer::Accepted,
+            Verdict::Rejected => Answer::Rejected,
+            Verdict::Refused(refusal) => Answer::Refused(refusal.number()),
+        }
+    }
+}
+
 /// A refusal as its number.
 fn row<T>(result: Result<T, Refusal>) -> Result<T, u8> {
     result.map_err(Refusal::number)
@@ -140,9 +150,7 @@ impl Call {
             (Entry::Root, [], [store, node]) => row(entries::root(set, store, node)).into(),
             (Entry::StorelessRoot, [], [leaves, node]) => row(entries::storeless_root(set, leaves, node)).into(),
             (Entry::Open, &[place], [store, siblings]) => row(entries::open(set, store, place, siblings)).into(),
-            (Entry::Verify, &[place], [root, leaf, siblings]) => {
-                row(entries::verify(set, root, place, leaf, siblings)).map(Verdict::is_accepted).into()
-            }
+            (Entry::Verify, &[place], [root, leaf, siblings]) => entries::verify(set, root, place, leaf, siblings).into(),
             (Entry::ReadLevel, &[level], [siblings, part]) => row(entries::read_level(set, siblings, level, part)).into(),
             (Entry::Replace, &[place], [store, leaf]) => row(entries::replace(set, store, place, leaf)).into(),
             (Entry::Push, [], [store, records]) => row(entries::push(set, store, records)).into(),
