@@ -1,5 +1,7 @@
-/* Calls every function of the library from C, on numbers whose answers are worked by hand, and on one call that each refuses. */
+/* Calls every function of the library from C, on numbers whose answers are worked by hand or were published, and on one call that each
+   refuses. */
 #include "opening_tree.h"
+#include "opening_tree_published.h"
 
 #include <stdio.h>
 #include <string.h>
@@ -10,7 +12,11 @@ static const uint64_t diagonal[4] = {1, 2, 3, 4};
 static const uint64_t constants[8] = {0, 0, 0, 0, P - 505316, P - 410806, P - 127289, P - 94519};
 static const uint64_t singular[4] = {P - 4, P - 4, P - 4, P - 4};
 
+/* Small numbers, to be worked with by hand, and not safe. */
 #define T 4, 2, 1, 2, 0, diagonal, 4, constants, 8
+
+/* The set that a function here was handed as OPENING_TREE_SET. */
+#define HANDED width, node_size, height, full_rounds, partial_rounds, diagonal, diagonal_count, constants, constants_count
 
 static int passed, failed;
 
@@ -48,6 +54,40 @@ static void states(void) {
     expect("a state of three numbers", opening_tree_permute(T, state, 3) == 10 && same(state, first, 4));
     expect("a set with a row", opening_tree_permute(5, 2, 1, 2, 0, diagonal, 4, constants, 8, state, 4) == 1 && same(state, first, 4));
     expect("compress", opening_tree_compress(T, first, 4, node, 2) == 0 && same(node, compressed, 2));
+}
+
+/* States and their permutations, as they were published. */
+static const uint64_t known_8[2][2][8] = {
+    {{0, 0, 0, 0, 0, 0, 0, 0},
+     {4214787979728720400U, 12324939279576102560U, 10353596058419792404U, 15456793487362310586U,
+      10065219879212154722U, 16227496357546636742U, 2959271128466640042U, 14285409611125725709U}},
+    {{0, 1, 2, 3, 4, 5, 6, 7},
+     {14266028122062624699U, 5353147180106052723U, 15203350112844181434U, 17630919042639565165U,
+      16601551015858213987U, 10184091939013874068U, 16774100645754596496U, 12047415603622314780U}},
+};
+static const uint64_t known_12[1][2][12] = {
+    {{0, 1, 2, 3, 4, 5, 6, 7, 8, 9, 10, 11},
+     {138186169299091649U, 2237493815125627916U, 7098449130000758157U, 16681569560651424230U,
+      2885694034573886267U, 1987263728465303211U, 4895658260063552408U, 16782691522897809445U,
+      6250362358359317026U, 8723968546836371205U, 17025428646788054631U, 7660698892044183277U}},
+};
+
+/* The state permutes as published, and back, and compresses to the first words of its sum with that; the sums stay below p. */
+static void known(OPENING_TREE_SET, const uint64_t *given, const uint64_t *permuted) {
+    uint64_t state[12], node[12], sum[12];
+    memcpy(state, given, width * sizeof *state);
+    for (size_t i = 0; i < node_size; i++) sum[i] = given[i] + permuted[i];
+    expect("permute, published", opening_tree_permute(HANDED, state, width) == 0 && same(state, permuted, width));
+    expect("unpermute, published", opening_tree_unpermute(HANDED, state, width) == 0 && same(state, given, width));
+    expect("compress, published", opening_tree_compress(HANDED, given, width, node, node_size) == 0 && same(node, sum, node_size));
+}
+
+static void published(void) {
+    known(OPENING_TREE_PUBLISHED_8(4, 3), known_8[0][0], known_8[0][1]);
+    known(OPENING_TREE_PUBLISHED_8(2, 1), known_8[1][0], known_8[1][1]);
+    known(OPENING_TREE_PUBLISHED_12(6, 3), known_12[0][0], known_12[0][1]);
+    expect("l = 5", opening_tree_validate(OPENING_TREE_PUBLISHED_12(5, 3)) == OPENING_TREE_BAD_NODE_SIZE);
+    expect("h = 33", opening_tree_validate(OPENING_TREE_PUBLISHED_8(4, 33)) == OPENING_TREE_BAD_HEIGHT);
 }
 
 static void trees(void) {
@@ -88,6 +128,7 @@ static void collisions(void) {
 int main(void) {
     field();
     states();
+    published();
     trees();
     changes();
     collisions();

@@ -1,10 +1,15 @@
-"""Holds the pages to what they speak of: a program that a page shows is the one that is run, a link leads to a file, and the header, the
-exported functions and the bindings name the same functions. The last line counts the checks."""
+"""Holds the pages to what they speak of: a program that a page shows is the one that is run, a link leads to a file, the header, the
+exported functions and the bindings name the same functions, and every copy of the published numbers is that of the reference. The last line
+counts the checks."""
 import pathlib
 import re
 import sys
 
 ROOT = pathlib.Path(__file__).resolve().parent.parent
+sys.path.insert(0, str(ROOT / "reference"))
+
+import published  # noqa: E402
+
 PAGES = sorted(p for p in ROOT.rglob("*.md") if "target" not in p.relative_to(ROOT).parts)
 SHOWN = {"c": "examples/first.c", "rust": "bindings/rust/examples/first.rs"}
 passed, wrong = 0, []
@@ -41,6 +46,39 @@ check(len(exported) > 0, "no function is exported")
 check(declared == exported, f"the header and the exports differ: {sorted(declared ^ exported)}")
 check(bound == exported, f"the bindings and the exports differ: {sorted(bound ^ exported)}")
 check(called == exported, f"tests/link.c does not call each function: {sorted(called ^ exported)}")
+
+
+RUST, HEADER = "bindings/rust/src/published.rs", "include/opening_tree_published.h"
+
+
+def lists(path, pattern):
+    """The lists of numbers that a source declares, by name."""
+    return {name: [int(n) for n in re.findall(r"\d+", body)] for name, body in re.findall(pattern, read(path), re.S)}
+
+
+in_rust = lists(RUST, r"pub const (\w+): \[u64; \d+\] = \[(.*?)\];")
+in_c = lists(HEADER, r"static const uint64_t (\w+)\[\d+\] \w+ = \{(.*?)\};")
+known_in_rust = lists("bindings/rust/tests/published.rs", r"const (KNOWN_\d+): \[Known<\d+>; \d+\] = \[(.*?)\n\];")
+known_in_c = lists("tests/link.c", r"static const uint64_t (known_\d+)(?:\[\d+\])* = \{(.*?)\n\};")
+macros = dict(re.findall(r"^#define (OPENING_TREE_PUBLISHED_\d+)\(node_size, height\) (.*)$", re.sub(r"\s*\\\n\s*", " ", read(HEADER)), re.M))
+check(len(published.INSTANCES) > 0, "the reference has no published instance")
+for instance in published.INSTANCES:
+    t, full, partial = instance["width"], instance["full_rounds"], instance["partial_rounds"]
+    diagonal, constants = instance["diagonal"], instance["constants"]
+    known = [n for state, permuted in instance["known_answers"] for n in state + permuted]
+    names = f"opening_tree_published_diagonal_{t}", f"opening_tree_published_constants_{t}"
+    handed = f"{t}, (node_size), (height), {full}, {partial}, {names[0]}, {len(diagonal)}, {names[1]}, {len(constants)}"
+    for what, copy, own in [
+        ("D of the bindings", in_rust.get(f"DIAGONAL_{t}"), diagonal),
+        ("C of the bindings", in_rust.get(f"CONSTANTS_{t}"), constants),
+        ("the rounds of the bindings", re.findall(r"ROUNDS: u64 = (\d+);", read(RUST)), [str(full), str(partial)]),
+        ("D of the header", in_c.get(names[0]), diagonal),
+        ("C of the header", in_c.get(names[1]), constants),
+        ("the header's macro", macros.get(f"OPENING_TREE_PUBLISHED_{t}"), handed),
+        ("a known answer in the bindings' tests", known_in_rust.get(f"KNOWN_{t}"), known),
+        ("a known answer in tests/link.c", known_in_c.get(f"known_{t}"), known),
+    ]:
+        check(copy == own, f"{what}, t = {t}: not as in the reference")
 
 for what in wrong:
     print(what)

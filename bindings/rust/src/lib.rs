@@ -27,7 +27,7 @@
 //! is an error, [`NotAccepted`].
 //!
 //! The types here are for numbers that are kept together; [`entries`] has the library's nineteen functions over plain slices, for
-//! buffers of one's own. [`field`] is the arithmetic.
+//! buffers of one's own. [`field`] is the arithmetic, and [`published`] has sets to start from.
 //!
 //! The constants of the examples are easy to follow and not safe: choosing safe ones is the caller's part.
 
@@ -41,6 +41,7 @@ compile_error!("the library is made for x86-64 Linux alone");
 pub mod entries;
 pub mod field;
 mod opening;
+pub mod published;
 mod record;
 mod refusal;
 mod set;
