@@ -1,20 +1,20 @@
-#include "opening_tree.h"
+#include "opening_tree_published.h"
 
 #include <inttypes.h>
 #include <stdio.h>
 
-#define P UINT64_C(18446744069414584321)
+/* t = 12, l = 4, h = 2: nodes of four words, three to a row, and nine leaves. */
+#define SET OPENING_TREE_PUBLISHED_12(4, 2)
 
 int main(void) {
-    const uint64_t d[4] = {1, 2, 3, 4};
-    const uint64_t c[8] = {0, 0, 0, 0, P - 505316, P - 410806, P - 127289, P - 94519};
-    const uint64_t leaves[4] = {1, 0, 0, 0}; /* two leaves of two words */
-    uint64_t store[6], root[2], siblings[2];
-    /* t = 4, l = 2, h = 1, R_F = 2, R_P = 0 */
-    if (opening_tree_build(4, 2, 1, 2, 0, d, 4, c, 8, leaves, 4, store, 6) != OPENING_TREE_DONE) return 1;
-    if (opening_tree_root(4, 2, 1, 2, 0, d, 4, c, 8, store, 6, root, 2) != OPENING_TREE_DONE) return 1;
-    if (opening_tree_open(4, 2, 1, 2, 0, d, 4, c, 8, store, 6, 0, siblings, 2) != OPENING_TREE_DONE) return 1;
-    uint8_t verdict = opening_tree_verify(4, 2, 1, 2, 0, d, 4, c, 8, root, 2, 0, leaves, 2, siblings, 2);
-    printf("root %" PRIu64 " %" PRIu64 ", %s\n", root[0], root[1], verdict == OPENING_TREE_ACCEPTED ? "accepted" : "not accepted");
-    return verdict;
+    uint64_t leaves[9 * 4], store[(9 + 3 + 1) * 4], root[4], siblings[2 * 2 * 4];
+    for (uint64_t i = 0; i < 36; i++) leaves[i] = i;
+    if (opening_tree_build(SET, leaves, 36, store, 52) != OPENING_TREE_DONE) return 1;
+    if (opening_tree_root(SET, store, 52, root, 4) != OPENING_TREE_DONE) return 1;
+    if (opening_tree_open(SET, store, 52, 5, siblings, 16) != OPENING_TREE_DONE) return 1;
+    /* Whoever holds the root alone asks whether this leaf stood at place 5. */
+    if (opening_tree_verify(SET, root, 4, 5, leaves + 20, 4, siblings, 16) != OPENING_TREE_ACCEPTED) return 1;
+    for (int i = 0; i < 4; i++) printf("%" PRIu64 "\n", root[i]);
+    puts("accepted");
+    return 0;
 }

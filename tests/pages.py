@@ -1,8 +1,9 @@
-"""Holds the pages to what they speak of: a program that a page shows is the one that is run, a link leads to a file, the header, the
-exported functions and the bindings name the same functions, and every copy of the published numbers is that of the reference. The last line
-counts the checks."""
+"""Holds the pages to what they speak of: a program that a page shows is the one that is run and prints what the reference does, a link
+leads to a file, the header, the exported functions and the bindings name the same functions, and every copy of the published numbers is that
+of the reference. The last line counts the checks."""
 import pathlib
 import re
+import subprocess
 import sys
 
 ROOT = pathlib.Path(__file__).resolve().parent.parent
@@ -31,6 +32,12 @@ front = read("README.md")
 for language, path in SHOWN.items():
     blocks = re.findall(r"^```%s\n(.*?)^```$" % language, front, re.M | re.S)
     check(read(path) in blocks, f"README.md does not show {path} as it is")
+
+printed = subprocess.run([sys.executable, ROOT / "examples/first.py"], stdout=subprocess.PIPE, text=True, check=True).stdout
+check(printed.endswith("accepted\n"), "the reference does not accept the first example's opening")
+for command in ["cargo run --release --offline --example first", "./first"]:
+    shown = re.findall(r"^    .*%s\n((?:    .*\n)+)" % re.escape(command), front, re.M)
+    check([re.sub(r"^    ", "", block, flags=re.M) for block in shown] == [printed], f"README.md shows another output of '{command}'")
 
 for page in PAGES:
     for target in re.findall(r"\]\(([^)#\s]+)(?:#[^)]*)?\)", page.read_text(encoding="utf-8")):

@@ -6,21 +6,22 @@
 //!
 //! ```
 //! use opening_tree::entries::{self, SetNumbers};
-//! use opening_tree::Refusal;
+//! use opening_tree::{published, Refusal};
 //!
 //! let set = SetNumbers {
-//!     width: 4,
-//!     node_size: 2,
+//!     width: 8,
+//!     node_size: 4,
 //!     height: 1,
-//!     full_rounds: 2,
-//!     partial_rounds: 0,
-//!     diagonal: &[1, 2, 3, 4],
-//!     constants: &[0; 8],
+//!     full_rounds: published::FULL_ROUNDS,
+//!     partial_rounds: published::PARTIAL_ROUNDS,
+//!     diagonal: &published::DIAGONAL_8,
+//!     constants: &published::CONSTANTS_8,
 //! };
-//! let mut state = [1, 0, 0, 0];
+//! let mut state = [0, 1, 2, 3, 4, 5, 6, 7];
 //! entries::permute(&set, &mut state)?;
+//! assert_eq!(state[0], 14266028122062624699); // as published
 //! entries::unpermute(&set, &mut state)?;
-//! assert_eq!(state, [1, 0, 0, 0]);
+//! assert_eq!(state, [0, 1, 2, 3, 4, 5, 6, 7]);
 //! assert_eq!(entries::permute(&set, &mut [1, 0, 0]), Err(Refusal::BadLength));
 //! # Ok::<(), Refusal>(())
 //! ```
@@ -322,6 +323,7 @@ mod tests {
     fn a_refusal_leaves_the_numbers_that_are_written() {
         const KEPT: u64 = 0x1234_5678;
         const P: u64 = crate::field::P;
+        // Small numbers, and not safe.
         let set = SetNumbers {
             width: 4,
             node_size: 2,

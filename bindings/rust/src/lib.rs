@@ -3,22 +3,14 @@
 //! A tree keeps one root, a few words, for all its leaves; an opening shows later that a leaf stood at a place.
 //!
 //! ```
-//! use opening_tree::{field::P, NotAccepted, ParameterSet, SetNumbers, Tree};
+//! use opening_tree::{published, NotAccepted, Tree};
 //!
-//! let set = ParameterSet::new(SetNumbers {
-//!     width: 4,
-//!     node_size: 2,
-//!     height: 1,
-//!     full_rounds: 2,
-//!     partial_rounds: 0,
-//!     diagonal: &[1, 2, 3, 4],
-//!     constants: &[0, 0, 0, 0, P - 505316, P - 410806, P - 127289, P - 94519],
-//! })?;
-//! let tree = Tree::build(&set, &[1, 0, 0, 0])?; // the leaves (1, 0) and (0, 0)
-//! let (root, opening) = (tree.root(), tree.open(1)?);
-//! assert_eq!((root.words(), &opening.siblings[..]), (&[6, 4][..], &[1, 0][..]));
-//! set.verify(&root, &[0, 0], &opening)?; // an error unless the opening is accepted
-//! assert_eq!(set.verify(&root, &[0, 1], &opening), Err(NotAccepted::Rejected));
+//! let set = published::width_12(4, 2)?; // nodes of four words, three to a row, and nine leaves
+//! let leaves: Vec<u64> = (0..36).collect();
+//! let tree = Tree::build(&set, &leaves)?;
+//! let (root, opening) = (tree.root(), tree.open(5)?);
+//! set.verify(&root, &leaves[20..24], &opening)?; // an error unless the opening is accepted
+//! assert_eq!(set.verify(&root, &leaves[24..28], &opening), Err(NotAccepted::Rejected));
 //! # Ok::<(), NotAccepted>(())
 //! ```
 //!
@@ -27,9 +19,9 @@
 //! is an error, [`NotAccepted`].
 //!
 //! The types here are for numbers that are kept together; [`entries`] has the library's nineteen functions over plain slices, for
-//! buffers of one's own. [`field`] is the arithmetic, and [`published`] has sets to start from.
+//! buffers of one's own. [`field`] is the arithmetic.
 //!
-//! The constants of the examples are easy to follow and not safe: choosing safe ones is the caller's part.
+//! Choosing a safe set is the caller's part. [`published`] has the Poseidon2 authors' instances to start from.
 
 #![deny(unsafe_code)]
 #![warn(missing_docs, missing_debug_implementations)]

@@ -8,22 +8,13 @@ use crate::verdict::NotAccepted;
 /// A parameter set that is validated.
 ///
 /// ```
-/// use opening_tree::{ParameterSet, Refusal, SetNumbers};
+/// use opening_tree::{published, ParameterSet, Refusal, SetNumbers};
 ///
-/// let numbers = SetNumbers {
-///     width: 8,
-///     node_size: 4,
-///     height: 32,
-///     full_rounds: 2,
-///     partial_rounds: 1,
-///     diagonal: &[1, 2, 3, 4, 5, 6, 7, 8],
-///     constants: &[0; 17],
-/// };
-/// let set = ParameterSet::new(numbers)?;
+/// let set = published::width_8(4, 32)?;
 /// assert_eq!((set.arity(), set.places()), (2, 1 << 32));
 /// assert_eq!((set.opening_words(), set.part_words()), (128, 4));
 ///
-/// let taller = SetNumbers { height: 33, ..numbers };
+/// let taller = SetNumbers { height: 33, ..set.numbers() };
 /// assert_eq!(ParameterSet::new(taller), Err(Refusal::BadHeight));
 /// # Ok::<(), Refusal>(())
 /// ```
@@ -124,16 +115,12 @@ impl ParameterSet {
     /// The permutation of t words, in place. Rows 10 and 12.
     ///
     /// ```
-    /// # use opening_tree::{ParameterSet, SetNumbers};
-    /// # let (diagonal, constants) = (&[1, 2, 3, 4], &[0; 8]);
-    /// # let set = ParameterSet::new(SetNumbers {
-    /// #     width: 4, node_size: 2, height: 1, full_rounds: 2, partial_rounds: 0, diagonal, constants,
-    /// # })?;
-    /// let mut state = [1, 2, 3, 4];
+    /// let set = opening_tree::published::width_8(4, 1)?;
+    /// let mut state = [0, 1, 2, 3, 4, 5, 6, 7];
     /// set.permute(&mut state)?;
-    /// assert_ne!(state, [1, 2, 3, 4]);
+    /// assert_eq!(state[0], 14266028122062624699); // as published
     /// set.unpermute(&mut state)?;
-    /// assert_eq!(state, [1, 2, 3, 4]);
+    /// assert_eq!(state, [0, 1, 2, 3, 4, 5, 6, 7]);
     /// # Ok::<(), opening_tree::Refusal>(())
     /// ```
     pub fn permute(&self, state: &mut [u64]) -> Result<(), Refusal> {
@@ -163,24 +150,20 @@ impl ParameterSet {
     /// error. Rows 10 to 12.
     ///
     /// ```
-    /// # use opening_tree::{ParameterSet, SetNumbers};
-    /// use opening_tree::{NotAccepted, Opening, Refusal, Tree};
+    /// use opening_tree::{published, NotAccepted, Opening, Refusal, Tree};
     ///
-    /// # let (diagonal, constants) = (&[1, 2, 3, 4], &[0; 8]);
-    /// # let set = ParameterSet::new(SetNumbers {
-    /// #     width: 4, node_size: 2, height: 1, full_rounds: 2, partial_rounds: 0, diagonal, constants,
-    /// # })?;
-    /// let tree = Tree::build(&set, &[1, 2, 3, 4])?;
+    /// let set = published::width_8(4, 1)?;
+    /// let tree = Tree::build(&set, &[1, 2, 3, 4, 5, 6, 7, 8])?;
     /// let (root, opening) = (tree.root(), tree.open(0)?);
-    /// assert!(set.verify(&root, &[1, 2], &opening).is_ok());
+    /// assert!(set.verify(&root, &[1, 2, 3, 4], &opening).is_ok());
     ///
     /// // Another leaf is rejected, and a rejected opening is not `Ok`.
-    /// let rejected = set.verify(&root, &[1, 3], &opening);
+    /// let rejected = set.verify(&root, &[1, 2, 3, 5], &opening);
     /// assert!(!rejected.is_ok());
     /// assert_eq!(rejected, Err(NotAccepted::Rejected));
     ///
     /// // There is no place 2, and a refused opening is not `Ok` either.
-    /// let refused = set.verify(&root, &[1, 2], &Opening { place: 2, ..opening });
+    /// let refused = set.verify(&root, &[1, 2, 3, 4], &Opening { place: 2, ..opening });
     /// assert_eq!(refused, Err(NotAccepted::Refused(Refusal::BadPlace)));
     /// # Ok::<(), NotAccepted>(())
     /// ```
@@ -192,13 +175,11 @@ impl ParameterSet {
     /// The siblings of one level, k - 1 nodes. No number of another level is looked at. Rows 10, 11 for a level not below h, and 12.
     ///
     /// ```
-    /// # use opening_tree::{Opening, ParameterSet, SetNumbers};
-    /// # let (diagonal, constants) = (&[1, 2, 3, 4], &[0; 8]);
-    /// # let set = ParameterSet::new(SetNumbers {
-    /// #     width: 4, node_size: 2, height: 3, full_rounds: 2, partial_rounds: 0, diagonal, constants,
-    /// # })?;
-    /// let opening = Opening { place: 5, siblings: vec![10, 11, 20, 21, 30, 31] };
-    /// assert_eq!(set.read_level(&opening, 1)?, [20, 21]);
+    /// use opening_tree::{published, Opening};
+    ///
+    /// let set = published::width_8(2, 3)?; // rows of four nodes, so three siblings at each level
+    /// let opening = Opening { place: 5, siblings: (0..18).collect() };
+    /// assert_eq!(set.read_level(&opening, 1)?, [6, 7, 8, 9, 10, 11]);
     /// # Ok::<(), opening_tree::Refusal>(())
     /// ```
     pub fn read_level(&self, opening: &Opening, level: u64) -> Result<Vec<u64>, Refusal> {

@@ -9,22 +9,14 @@ use crate::set::ParameterSet;
 /// A tree: a set and the store of its leaves.
 ///
 /// ```
-/// use opening_tree::{ParameterSet, Record, SetNumbers, Tree};
+/// use opening_tree::{published, Record, Tree};
 ///
-/// let set = ParameterSet::new(SetNumbers {
-///     width: 4,
-///     node_size: 2,
-///     height: 2,
-///     full_rounds: 2,
-///     partial_rounds: 0,
-///     diagonal: &[1, 2, 3, 4],
-///     constants: &[0; 8],
-/// })?;
-/// let mut tree = Tree::build(&set, &[0, 0, 1, 1, 2, 2, 3, 3])?;
-/// assert_eq!(tree.replace(3, &[7, 7])?, 2); // compressions
-/// let record = Record::new(0, &[9, 9]).expect("at most six words");
+/// let set = published::width_8(4, 2)?;
+/// let mut tree = Tree::build(&set, &[0; 16])?; // four leaves of four words
+/// assert_eq!(tree.replace(3, &[7, 7, 7, 7])?, 2); // compressions
+/// let record = Record::new(0, &[9, 8, 7, 6]).expect("at most six words");
 /// assert_eq!(tree.push(&[record, record])?, 4);
-/// assert_eq!(tree.leaves(), [9, 9, 1, 1, 2, 2, 7, 7]);
+/// assert_eq!(tree.leaves(), [9, 8, 7, 6, 0, 0, 0, 0, 0, 0, 0, 0, 7, 7, 7, 7]);
 /// assert_eq!(tree.root(), set.storeless_root(tree.leaves())?);
 /// # Ok::<(), opening_tree::Refusal>(())
 /// ```

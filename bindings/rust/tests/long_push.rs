@@ -1,6 +1,6 @@
 //! A push of one record over 2^32. The list takes 224 GiB of addresses, though no memory: it is refused before a record is read.
 
-use opening_tree::{entries, Refusal, SetNumbers};
+use opening_tree::{entries, published, Refusal};
 use std::ffi::{c_int, c_void};
 
 const RECORDS: usize = (1 << 32) + 1;
@@ -24,10 +24,9 @@ fn a_push_of_over_2_to_the_32_records_is_refused() {
     assert_ne!(mapped as isize, -1, "the addresses were not granted");
     // SAFETY: the mapping has so many numbers, all 0, that nothing writes.
     let records: &[u64] = unsafe { std::slice::from_raw_parts(mapped.cast(), count) };
-    let (diagonal, constants) = (&[1, 2, 3, 4], &[0; 8]);
-    let set = SetNumbers { width: 4, node_size: 2, height: 0, full_rounds: 2, partial_rounds: 0, diagonal, constants };
+    let set = published::width_8(2, 0).expect("no row applies");
     let mut store = [1, 2];
-    assert_eq!(entries::push(&set, &mut store, records), Err(Refusal::BadLength));
+    assert_eq!(entries::push(&set.numbers(), &mut store, records), Err(Refusal::BadLength));
     assert_eq!(store, [1, 2]);
     // SAFETY: the whole mapping, to which no reference is used any more.
     assert_eq!(unsafe { munmap(mapped, count * 8) }, 0);

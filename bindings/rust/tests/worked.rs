@@ -8,7 +8,7 @@ use opening_tree::entries;
 use opening_tree::field::{self, P};
 use opening_tree::{Collision, NotAccepted, Offer, Opening, ParameterSet, Record, Refusal, Root, SetNumbers, Tree, Verdict};
 
-/// The set T.
+/// The set T: small numbers, to be worked with by hand, and not safe.
 const T: SetNumbers = SetNumbers {
     width: 4,
     node_size: 2,
@@ -19,14 +19,14 @@ const T: SetNumbers = SetNumbers {
     constants: &[0, 0, 0, 0, P - 505316, P - 410806, P - 127289, P - 94519],
 };
 
-/// The set U.
+/// The set U, likewise.
 const U: SetNumbers = SetNumbers {
     partial_rounds: 1,
     constants: &[0, 0, 0, 0, P - 505316, P - 632615, P - 1454227, P - 1014482, P - 1010691],
     ..T
 };
 
-/// A set that was made for two leaves which are both accepted at one place.
+/// A set that was made for two leaves which are both accepted at one place, and so is not safe.
 const WEAK: SetNumbers = SetNumbers {
     height: 2,
     diagonal: &[2323977009865630898, 12518514558001707300, 668178666096051417, 9875627240877486526],
