@@ -1,17 +1,39 @@
 /*
- * Merkle openings over Poseidon2, proved. The library is target/staticlib/libexports.a (rt staticlib exports); x86-64 Linux.
+ * Merkle openings over Poseidon2, proved: each function returns and writes what its definition says, whatever numbers it is handed. The
+ * library is target/staticlib/libexports.a (rt staticlib exports), for x86-64 Linux; this header is C99 and C++11.
  *
- * Every function returns a number: 0 where the work is done, or the number of the refusal that applies (the names below). After a
- * refusal every buffer holds what it held. opening_tree_verify returns 0 for an opening that is accepted, and for nothing else.
+ * NUMBERS. A word is a number below p = 18446744069414584321 = 2^64 - 2^32 + 1. Others, p itself among them, are no words.
  *
- * Any numbers and any counts may be handed in. What C cannot show is presumed: a pointer is to as many numbers as the count beside it
- * says and is not NULL, and what a function writes overlaps nothing else that it is handed.
+ * A PARAMETER SET is handed in with every call, as nine arguments (OPENING_TREE_SET below): width t, node_size l, height h,
+ * full_rounds R_F, partial_rounds R_P, diagonal D of t words, and constants C of t * R_F + R_P words. Below k = t / l.
+ * D is the diagonal less one: the internal layer makes of word i the sum of all words plus D_i times word i. C is in order of use: t words
+ * for each full round of the first half, one for each partial round, t for each full round of the second half.
+ * Choosing a safe set is the caller's part; opening_tree_published.h has the Poseidon2 authors' instances to start from.
  *
- * A parameter set is handed in as
- *     width (t), node_size (l), height (h), full_rounds (R_F), partial_rounds (R_P),
- *     diagonal (D, t numbers), constants (C, t * R_F + R_P numbers, in order of use).
- * Below k = t / l. A node is l numbers; the leaves are k^h nodes; a store is its levels one after another, leaves first,
- * (1 + k + ... + k^h) * l numbers; an opening is h * (k - 1) * l numbers. A word is a number below 18446744069414584321.
+ * A TREE. A node is l words; a row is k nodes side by side, t words. The compression of a row adds its input: it is the first l words of
+ * permutation(row) + row, word by word. Level 0 is the k^h leaves; node i of level j + 1 is the compression of the row that begins at node
+ * k * i of level j; level h is the root. For h = 0 the root is the leaf. A place is a leaf's index, from 0.
+ *     leaves      k^h * l numbers
+ *     a store     (1 + k + ... + k^h) * l numbers: level after level, leaves first; so the root is its last l
+ *     an opening  h * (k - 1) * l numbers, the siblings: level by level from the leaves up, and at each level the row that holds the node
+ *                 above the place, ascending, with that node's own place left out. At level j this node is number place / k^j of the level,
+ *                 and (place / k^j) % k of its row.
+ *
+ * WHAT IS RETURNED. 0 where the work is done, else the number of a refusal (the names below): of those that apply the lowest. After a
+ * refusal every buffer holds what it held, and so do *result, *made and *level. opening_tree_verify returns 0 for an opening that is
+ * accepted and for nothing else; for one that is rejected it returns 255, which is no refusal's number. In a function's comment the
+ * brackets after a number say what is tested: for 10 the counts of these buffers, for 12 that these numbers are words.
+ *
+ * WHAT MAY BE HANDED IN. Any numbers and any counts: a count says how many numbers are at the pointer before it, and one that does not fit
+ * is refused. What C cannot show is presumed: that many numbers are there, one at result, made and level, and what a function writes
+ * overlaps nothing else that it is handed. A pointer before the count 0 is not followed and may be NULL: an opening has no numbers
+ * where h is 0, and a push may have no records.
+ *
+ * THREADS. No function keeps anything from one call to the next or uses anything but its arguments. Any calls may run at once as long as
+ * none writes what another reads or writes.
+ *
+ * MEMORY. No function allocates. As compiled today a call takes at most 13 kB of stack, but opening_tree_storeless_root takes more with
+ * each level of the tree, at most 40 kB. Of the C library memcpy and memset are needed, and nothing else.
  */
 #ifndef OPENING_TREE_H
 #define OPENING_TREE_H
@@ -48,83 +70,112 @@ extern "C" {
     uint64_t width, uint64_t node_size, uint64_t height, uint64_t full_rounds, uint64_t partial_rounds,                       \
         const uint64_t *diagonal, size_t diagonal_count, const uint64_t *constants, size_t constants_count
 
-/* ---- The field: arithmetic modulo 18446744069414584321. The word is written to *result. Refusals: 12; for the inverse also 13. */
+/* ---- The field: arithmetic modulo p. */
 
-/* a + b */
+/* a + b. Writes *result. Refusals: 12 (a, b). */
 uint8_t opening_tree_sum(uint64_t a, uint64_t b, uint64_t *result);
 
-/* a - b */
+/* a - b. Writes *result. Refusals: 12 (a, b). */
 uint8_t opening_tree_difference(uint64_t a, uint64_t b, uint64_t *result);
 
-/* a * b */
+/* a * b. Writes *result. Refusals: 12 (a, b). */
 uint8_t opening_tree_product(uint64_t a, uint64_t b, uint64_t *result);
 
-/* base to the power exponent; 1 for the exponent 0. The exponent is any number. */
+/* base to the power exponent; 1 for the exponent 0. Writes *result. Refusals: 12 (base; the exponent is any number). */
 uint8_t opening_tree_power(uint64_t base, uint64_t exponent, uint64_t *result);
 
-/* The word whose product with x is 1. */
+/* The word whose product with x is 1. Writes *result. Refusals, in this order: 12 (x), 13 (x is 0). */
 uint8_t opening_tree_inverse(uint64_t x, uint64_t *result);
 
-/* The word whose seventh power is y. */
+/* The word whose seventh power is y. Writes *result. Refusals: 12 (y). */
 uint8_t opening_tree_seventh_root(uint64_t y, uint64_t *result);
 
-/* ---- Sets and states. Each function below judges the set first: refusals 1 to 9. */
+/* ---- Sets and states. From here on each function tests the set first, by 1 to 9 in this order. */
 
-/* 0 where the set is accepted. */
+/* Whether the set is accepted: then 0. Writes nothing. Refusals, in this order: 1 to 9. */
 uint8_t opening_tree_validate(OPENING_TREE_SET);
 
-/* The permutation of t words, in place. Refusals: 1 to 10, 12. */
+/* The permutation of t words, in place. Writes the whole state. Refusals, in this order: 1 to 9, 10 (the state is not of t numbers),
+   12 (the state). */
 uint8_t opening_tree_permute(OPENING_TREE_SET, uint64_t *state, size_t state_count);
 
-/* The words whose permutation is given, in place. Refusals: 1 to 10, 12. */
+/* The words whose permutation is given, in place. Writes the whole state. Refusals, in this order: 1 to 9, 10 (the state is not of t
+   numbers), 12 (the state). */
 uint8_t opening_tree_unpermute(OPENING_TREE_SET, uint64_t *state, size_t state_count);
 
-/* The compression of t words, written to a node of l. Refusals: 1 to 10, 12. */
+/* The compression of t words. Writes the node. Refusals, in this order: 1 to 9, 10 (the state is not of t numbers, or the node not of l),
+   12 (the state). */
 uint8_t opening_tree_compress(OPENING_TREE_SET, const uint64_t *state, size_t state_count, uint64_t *node, size_t node_count);
 
 /* ---- Trees */
 
-/* The whole store of the leaves. Refusals: 1 to 10, 12. */
+/* The store of the leaves. Writes the whole store, and reads nothing of it. Refusals, in this order: 1 to 9, 10 (leaves, store),
+   12 (leaves). */
 uint8_t opening_tree_build(OPENING_TREE_SET, const uint64_t *leaves, size_t leaves_count, uint64_t *store, size_t store_count);
 
-/* The root of a store, its last l numbers, written to the node. Refusals: 1 to 10, 12 (the numbers copied). */
+/* The root of a store, its last l numbers. Writes the node. Refusals, in this order: 1 to 9, 10 (store; the node is not of l numbers),
+   12 (these l; the others are not looked at). */
 uint8_t opening_tree_root(OPENING_TREE_SET, const uint64_t *store, size_t store_count, uint64_t *node, size_t node_count);
 
-/* The root of the leaves, written to the node, without a store. Refusals: 1 to 10, 12. */
+/* The root of the leaves, without a store. Writes the node. Refusals, in this order: 1 to 9, 10 (leaves; the node is not of l numbers),
+   12 (leaves). */
 uint8_t opening_tree_storeless_root(OPENING_TREE_SET, const uint64_t *leaves, size_t leaves_count, uint64_t *node,
                                     size_t node_count);
 
-/* The opening of a place: its siblings at each level from the leaves up. Refusals: 1 to 11, 12 (the numbers copied). */
+/* The opening of a place. Writes all siblings. Refusals, in this order: 1 to 9, 10 (store, siblings), 11 (the place is not below k^h),
+   12 (the numbers copied; the others are not looked at). */
 uint8_t opening_tree_open(OPENING_TREE_SET, const uint64_t *store, size_t store_count, uint64_t place, uint64_t *siblings,
                           size_t siblings_count);
 
-/* Whether the leaf stood at the place under the root: 0 is accepted, 255 rejected. Refusals: 1 to 12. */
+/* Whether the leaf stood at the place under the root, that is, put back among its siblings at each level it ends in the root: 0 where it
+   does, which is OPENING_TREE_ACCEPTED, and OPENING_TREE_REJECTED where it does not. Writes nothing. Refusals, in this order: 1 to 9,
+   10 (the root or the leaf is not of l numbers; siblings), 11 (the place is not below k^h), 12 (root, leaf, siblings). */
 uint8_t opening_tree_verify(OPENING_TREE_SET, const uint64_t *root, size_t root_count, uint64_t place, const uint64_t *leaf,
                             size_t leaf_count, const uint64_t *siblings, size_t siblings_count);
 
-/* The siblings of one level, (k - 1) * l numbers, copied to the part. Refusals: 1 to 10, 11 (the level is not below h), 12 (a number
-   of that level; the others are not looked at). */
+/* The siblings of one level, (k - 1) * l numbers. Writes the part. Refusals, in this order: 1 to 9, 10 (siblings; the part is not of
+   (k - 1) * l numbers), 11 (the level is not below h), 12 (a number of that level; the others are not looked at). */
 uint8_t opening_tree_read_level(OPENING_TREE_SET, const uint64_t *siblings, size_t siblings_count, uint64_t level, uint64_t *part,
                                 size_t part_count);
 
 /* ---- Changes */
 
-/* The leaf at its place in the store, and the h nodes above it. *made is the compressions made. Refusals: 1 to 11, 12 (the leaf and
-   the stored siblings that are read). */
+/* The leaf at its place, and the h nodes above it, made with the siblings that are stored. Writes these h + 1 nodes of the store, and the
+   number of compressions, h, to *made. Refusals, in this order: 1 to 9, 10 (store; the leaf is not of l numbers), 11 (the place is not
+   below k^h), 12 (the leaf, and the stored siblings that are read). */
 uint8_t opening_tree_replace(OPENING_TREE_SET, uint64_t *store, size_t store_count, uint64_t place, const uint64_t *leaf,
                              size_t leaf_count, uint64_t *made);
 
-/* Replacements in order, all or none: seven numbers each, a place and six words of which the first l are the leaf. *made is the
-   compressions made. Refusals: 1 to 9, 10 (also a count of numbers that is not a multiple of seven), 11, 12 (the words used, and the
-   whole store). */
-uint8_t opening_tree_push(OPENING_TREE_SET, uint64_t *store, size_t store_count, const uint64_t *records, size_t records_count,
-                          uint64_t *made);
+/* One replacement of a push: the first l words are the leaf, and the others are not looked at. */
+typedef struct opening_tree_record {
+    uint64_t place;
+    uint64_t words[6];
+} opening_tree_record;
+
+/* opening_tree_push, below, of records that are handed in as numbers, seven for each: its place, then its words. The count is that of the
+   numbers. Writes and refuses as that does; 10 also where the count is no multiple of seven. */
+uint8_t opening_tree_push_numbers(OPENING_TREE_SET, uint64_t *store, size_t store_count, const uint64_t *numbers,
+                                  size_t numbers_count, uint64_t *made);
+
+/* Replacements in order, all or none; the count is that of the records. Writes for each record its leaf and the h nodes above it to the
+   store, and the number of all compressions, h for each record, to *made. Refusals, in this order: 1 to 9, 10 (store; over 2^32 records),
+   11 (the place of any record is not below k^h), 12 (the leaf of any record, and the whole store). This one function is C, over the proved
+   one above. */
+static inline uint8_t opening_tree_push(OPENING_TREE_SET, uint64_t *store, size_t store_count, const opening_tree_record *records,
+                                        size_t records_count, uint64_t *made) {
+    /* Of over 2^32 records none is read, however many they are; and seven times this count is below 2^64. */
+    const size_t count = records_count > 4294967296U ? 4294967297U : records_count;
+    return opening_tree_push_numbers(width, node_size, height, full_rounds, partial_rounds, diagonal, diagonal_count, constants,
+                                     constants_count, store, store_count, count == 0 ? NULL : &records->place, 7 * count, made);
+}
 
 /* ---- Collisions */
 
-/* Of two leaves with their openings, both accepted at the same place under the same root: *level is the lowest level at which their
-   rows differ and compress alike; the first leaf's row is written to first_row, the second's to second_row, t numbers each.
-   Refusals: 1 to 12, 14, 15. */
+/* Of two leaves with their openings, both accepted at the same place under the same root: the lowest level at which their rows differ and
+   compress alike. A leaf's row at a level is the k nodes that opening_tree_verify compresses there. Writes the level to *level, the first
+   leaf's row to first_row and the second's to second_row. Refusals, in this order: 1 to 9, 10 (the root or a leaf is not of l numbers;
+   siblings; a row is not of t numbers), 11 (the place is not below k^h), 12 (root, leaves, siblings), 14 (an opening is not accepted),
+   15 (the leaves are equal). */
 uint8_t opening_tree_extract(OPENING_TREE_SET, const uint64_t *root, size_t root_count, uint64_t place, const uint64_t *first,
                              size_t first_count, const uint64_t *first_siblings, size_t first_siblings_count,
                              const uint64_t *second, size_t second_count, const uint64_t *second_siblings,

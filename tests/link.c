@@ -113,8 +113,57 @@ static void changes(void) {
     expect("replace", opening_tree_replace(T, store, 6, 0, leaf, 2, &made) == 0 && made == 1 && same(store, built, 6));
     memset(store, 0, sizeof store);
     made = 99;
-    expect("six numbers", opening_tree_push(T, store, 6, record, 6, &made) == 10 && made == 99 && store[0] == 0);
-    expect("push", opening_tree_push(T, store, 6, record, 7, &made) == 0 && made == 1 && same(store, built, 6));
+    expect("six numbers", opening_tree_push_numbers(T, store, 6, record, 6, &made) == 10 && made == 99 && store[0] == 0);
+    expect("seven numbers", opening_tree_push_numbers(T, store, 6, record, 7, &made) == 0 && made == 1 && same(store, built, 6));
+}
+
+/* A count of records is one of records, also where seven times that passes 2^64. */
+static void records(void) {
+    const uint64_t built[6] = {1, 0, 0, 0, 6, 4};
+    const opening_tree_record last = {0, {1, 0, P, P, P, P}}, other = {1, {0, 0, P, P, P, P}}, out = {2, {0, 0, 0, 0, 0, 0}};
+    const opening_tree_record seven[7] = {other, {0, {2, 3, 0, 0, 0, 0}}, other, {0, {4, 5, 0, 0, 0, 0}}, other, other, last};
+    const opening_tree_record bad[2] = {last, out};
+    const size_t most = UINT64_C(1) << 32, wraps = SIZE_MAX / 7 + 1;
+    uint64_t store[6] = {0}, made = 99;
+    expect("a record is seven numbers", sizeof last == 7 * sizeof(uint64_t) && 7 * wraps < 7);
+    expect("the second place", opening_tree_push(T, store, 6, bad, 2, &made) == 11 && made == 99 && store[0] == 0);
+    expect("over 2^32 records", opening_tree_push(T, store, 6, seven, most + 1, &made) == 10 && made == 99 && store[0] == 0);
+    expect("more than fit", opening_tree_push(T, store, 6, seven, wraps, &made) == 10 && made == 99 && store[0] == 0);
+    expect("the most", opening_tree_push(T, store, 6, seven, SIZE_MAX, &made) == 10 && made == 99 && store[0] == 0);
+    expect("a set with a row", opening_tree_push(4, 2, 1, 2, 0, singular, 4, constants, 8, store, 6, seven, SIZE_MAX, &made) == 9);
+    expect("seven records", opening_tree_push(T, store, 6, seven, 7, &made) == 0 && made == 7 && same(store, built, 6));
+    memset(store, 0, sizeof store);
+    expect("the first", opening_tree_push(T, store, 6, seven, 1, &made) == 0 && made == 1 && !same(store, built, 6));
+}
+
+/* A set that was made for two leaves which are both accepted at place 3 under one root, and so is not safe: their rows at level 1 collide.
+   At each level the sibling comes first. */
+#define WEAK 4, 2, 2, 2, 0, weak_diagonal, 4, weak_constants, 8
+static const uint64_t weak_diagonal[4] = {2323977009865630898U, 12518514558001707300U, 668178666096051417U, 9875627240877486526U};
+static const uint64_t weak_constants[8] = {1372557943261738864U,  5032861063245982280U, 2810201305772277961U,  1726419793238167099U,
+                                           11056965576908617619U, 1269056739062402058U, 13680347514614465711U, 4294967295U};
+static const uint64_t weak_root[2] = {7353310026026904088U, 13490686081725479607U};
+static const uint64_t weak_leaves[2][2] = {{3669959116008525303U, 17781029918724427263U}, {8531481348199922329U, 1313280933183081952U}};
+static const uint64_t weak_siblings[2][4] = {
+    {3257721517816812275U, 4705944142922014037U, 16445857043074958901U, 14291850895486815322U},
+    {2354424344695467737U, 13835142492714613454U, 3520250776031253462U, 9297292628332905236U}};
+
+static void extraction(void) {
+    uint64_t rows[2][4], made[2][4], level = 99;
+    for (int i = 0; i < 2; i++) {
+        const uint64_t *leaf = weak_leaves[i], *siblings = weak_siblings[i];
+        const uint64_t below[4] = {siblings[0], siblings[1], leaf[0], leaf[1]};
+        memcpy(made[i], siblings + 2, 2 * sizeof *siblings);
+        expect("accepted", opening_tree_verify(WEAK, weak_root, 2, 3, leaf, 2, siblings, 4) == OPENING_TREE_ACCEPTED);
+        expect("the node above", opening_tree_compress(WEAK, below, 4, made[i] + 2, 2) == 0);
+    }
+    expect("extract", opening_tree_extract(WEAK, weak_root, 2, 3, weak_leaves[0], 2, weak_siblings[0], 4, weak_leaves[1], 2,
+                                           weak_siblings[1], 4, rows[0], 4, rows[1], 4, &level) == 0 && level == 1);
+    expect("the rows", same(rows[0], made[0], 4) && same(rows[1], made[1], 4) && !same(rows[0], rows[1], 4));
+    for (int i = 0; i < 2; i++) {
+        uint64_t node[2] = {0, 0};
+        expect("compress alike", opening_tree_compress(WEAK, rows[i], 4, node, 2) == 0 && same(node, weak_root, 2));
+    }
 }
 
 static void collisions(void) {
@@ -125,13 +174,104 @@ static void collisions(void) {
     expect("nothing written", a[0] == 9 && b[3] == 9 && level == 99);
 }
 
+/* NULL with the count 0, for every slice: refused where the slice has numbers, and taken where it has none. T without its lists, and with
+   the height 0. */
+#define BARE 4, 2, 1, 2, 0, NULL, 0, NULL, 0
+#define LOW 4, 2, 0, 2, 0, diagonal, 4, constants, 8
+
+static void null_lists(void) {
+    uint64_t made = 99, level = 99;
+    expect("no D", opening_tree_validate(4, 2, 1, 2, 0, NULL, 0, constants, 8) == 6);
+    expect("no C", opening_tree_validate(4, 2, 1, 2, 0, diagonal, 4, NULL, 0) == 6);
+    expect("no lists: validate", opening_tree_validate(BARE) == 6);
+    expect("no lists: permute", opening_tree_permute(BARE, NULL, 0) == 6);
+    expect("no lists: unpermute", opening_tree_unpermute(BARE, NULL, 0) == 6);
+    expect("no lists: compress", opening_tree_compress(BARE, NULL, 0, NULL, 0) == 6);
+    expect("no lists: build", opening_tree_build(BARE, NULL, 0, NULL, 0) == 6);
+    expect("no lists: root", opening_tree_root(BARE, NULL, 0, NULL, 0) == 6);
+    expect("no lists: storeless root", opening_tree_storeless_root(BARE, NULL, 0, NULL, 0) == 6);
+    expect("no lists: open", opening_tree_open(BARE, NULL, 0, 0, NULL, 0) == 6);
+    expect("no lists: verify", opening_tree_verify(BARE, NULL, 0, 0, NULL, 0, NULL, 0) == 6);
+    expect("no lists: read level", opening_tree_read_level(BARE, NULL, 0, 0, NULL, 0) == 6);
+    expect("no lists: replace", opening_tree_replace(BARE, NULL, 0, 0, NULL, 0, &made) == 6);
+    expect("no lists: push", opening_tree_push(BARE, NULL, 0, NULL, 0, &made) == 6);
+    expect("no lists: push, numbers", opening_tree_push_numbers(BARE, NULL, 0, NULL, 0, &made) == 6);
+    expect("no lists: extract", opening_tree_extract(BARE, NULL, 0, 0, NULL, 0, NULL, 0, NULL, 0, NULL, 0, NULL, 0, NULL, 0, &level) == 6);
+    expect("no lists: nothing is written", made == 99 && level == 99);
+}
+
+static void null_buffers(void) {
+    const uint64_t four[4] = {1, 0, 0, 0}, store[6] = {1, 0, 0, 0, 6, 4};
+    uint64_t out[6] = {9, 9, 9, 9, 9, 9}, kept[6] = {9, 9, 9, 9, 9, 9}, made = 99;
+    const opening_tree_record one = {0, {1, 0, 0, 0, 0, 0}};
+    expect("NULL: permute", opening_tree_permute(T, NULL, 0) == 10);
+    expect("NULL: unpermute", opening_tree_unpermute(T, NULL, 0) == 10);
+    expect("NULL: compress, state", opening_tree_compress(T, NULL, 0, out, 2) == 10);
+    expect("NULL: compress, node", opening_tree_compress(T, four, 4, NULL, 0) == 10);
+    expect("NULL: build, leaves", opening_tree_build(T, NULL, 0, out, 6) == 10);
+    expect("NULL: build, store", opening_tree_build(T, four, 4, NULL, 0) == 10);
+    expect("NULL: root, store", opening_tree_root(T, NULL, 0, out, 2) == 10);
+    expect("NULL: root, node", opening_tree_root(T, store, 6, NULL, 0) == 10);
+    expect("NULL: storeless root, leaves", opening_tree_storeless_root(T, NULL, 0, out, 2) == 10);
+    expect("NULL: storeless root, node", opening_tree_storeless_root(T, four, 4, NULL, 0) == 10);
+    expect("NULL: open, store", opening_tree_open(T, NULL, 0, 0, out, 2) == 10);
+    expect("NULL: open, siblings", opening_tree_open(T, store, 6, 0, NULL, 0) == 10);
+    expect("NULL: verify, root", opening_tree_verify(T, NULL, 0, 0, four, 2, four + 2, 2) == 10);
+    expect("NULL: verify, leaf", opening_tree_verify(T, store + 4, 2, 0, NULL, 0, four + 2, 2) == 10);
+    expect("NULL: verify, siblings", opening_tree_verify(T, store + 4, 2, 0, four, 2, NULL, 0) == 10);
+    expect("NULL: read level, siblings", opening_tree_read_level(T, NULL, 0, 0, out, 2) == 10);
+    expect("NULL: read level, part", opening_tree_read_level(T, four, 2, 0, NULL, 0) == 10);
+    expect("NULL: replace, store", opening_tree_replace(T, NULL, 0, 0, four, 2, &made) == 10);
+    expect("NULL: replace, leaf", opening_tree_replace(T, out, 6, 0, NULL, 0, &made) == 10);
+    expect("NULL: push, store", opening_tree_push(T, NULL, 0, &one, 1, &made) == 10);
+    expect("NULL: push, store, and no records", opening_tree_push(T, NULL, 0, NULL, 0, &made) == 10);
+    expect("NULL: nothing is written", same(out, kept, 6) && made == 99);
+}
+
+static void null_rows(void) {
+    const uint64_t two[2] = {1, 0}, root[2] = {6, 4};
+    uint64_t a[4] = {9, 9, 9, 9}, b[4] = {9, 9, 9, 9}, level = 99;
+    expect("NULL: extract, root", opening_tree_extract(T, NULL, 0, 0, two, 2, two, 2, two, 2, two, 2, a, 4, b, 4, &level) == 10);
+    expect("NULL: extract, first", opening_tree_extract(T, root, 2, 0, NULL, 0, two, 2, two, 2, two, 2, a, 4, b, 4, &level) == 10);
+    expect("NULL: extract, its siblings", opening_tree_extract(T, root, 2, 0, two, 2, NULL, 0, two, 2, two, 2, a, 4, b, 4, &level) == 10);
+    expect("NULL: extract, second", opening_tree_extract(T, root, 2, 0, two, 2, two, 2, NULL, 0, two, 2, a, 4, b, 4, &level) == 10);
+    expect("NULL: extract, its siblings", opening_tree_extract(T, root, 2, 0, two, 2, two, 2, two, 2, NULL, 0, a, 4, b, 4, &level) == 10);
+    expect("NULL: extract, first row", opening_tree_extract(T, root, 2, 0, two, 2, two, 2, two, 2, two, 2, NULL, 0, b, 4, &level) == 10);
+    expect("NULL: extract, second row", opening_tree_extract(T, root, 2, 0, two, 2, two, 2, two, 2, two, 2, a, 4, NULL, 0, &level) == 10);
+    expect("NULL: nothing is written", a[0] == 9 && b[3] == 9 && level == 99);
+}
+
+/* A tree with h = 0 is its one leaf: its opening has no numbers. */
+static void null_openings(void) {
+    const uint64_t leaf[2] = {3, 4}, other[2] = {4, 3};
+    uint64_t store[2] = {9, 9}, part[2] = {9, 9}, a[4] = {9, 9, 9, 9}, b[4] = {9, 9, 9, 9}, made = 99, level = 99;
+    expect("h = 0: build", opening_tree_build(LOW, leaf, 2, store, 2) == 0 && same(store, leaf, 2));
+    expect("h = 0: open", opening_tree_open(LOW, store, 2, 0, NULL, 0) == 0);
+    expect("h = 0: open, place 1", opening_tree_open(LOW, store, 2, 1, NULL, 0) == 11);
+    expect("h = 0: accepted", opening_tree_verify(LOW, store, 2, 0, leaf, 2, NULL, 0) == OPENING_TREE_ACCEPTED);
+    expect("h = 0: rejected", opening_tree_verify(LOW, store, 2, 0, other, 2, NULL, 0) == OPENING_TREE_REJECTED);
+    expect("h = 0: no level", opening_tree_read_level(LOW, NULL, 0, 0, part, 2) == 11 && part[0] == 9);
+    expect("h = 0: equal", opening_tree_extract(LOW, store, 2, 0, leaf, 2, NULL, 0, leaf, 2, NULL, 0, a, 4, b, 4, &level) == 15);
+    expect("h = 0: not accepted", opening_tree_extract(LOW, store, 2, 0, leaf, 2, NULL, 0, other, 2, NULL, 0, a, 4, b, 4, &level) == 14);
+    expect("h = 0: no records", opening_tree_push(LOW, store, 2, NULL, 0, &made) == 0 && made == 0 && same(store, leaf, 2));
+    expect("h = 0: nothing is written", a[0] == 9 && b[3] == 9 && level == 99);
+    made = 99;
+    expect("h = 0: no numbers", opening_tree_push_numbers(LOW, store, 2, NULL, 0, &made) == 0 && made == 0 && same(store, leaf, 2));
+}
+
 int main(void) {
     field();
     states();
     published();
     trees();
     changes();
+    records();
+    extraction();
     collisions();
+    null_lists();
+    null_buffers();
+    null_rows();
+    null_openings();
     printf("%d passed, %d failed\n", passed, failed);
-    return failed != 0;
+    return failed != 0 || passed == 0;
 }

@@ -222,15 +222,20 @@ pub fn replace(set: &SetNumbers, store: &mut [u64], place: u64, leaf: &[u64]) ->
     })
 }
 
-/// Replacements in order, all or none. The records are a flat list, seven numbers each: a place, and six words of which the first l
-/// are the leaf. Answers the compressions made. Rows 1 to 9, 10 also for a list that is not a multiple of seven, 11, and 12 for the
-/// words used and the whole store.
+/// Replacements in order, all or none. Answers the compressions made. Rows 1 to 11, and 12 for the leaves of the records and the whole
+/// store.
+pub fn push(set: &SetNumbers, store: &mut [u64], records: &[Record]) -> Result<u64, Refusal> {
+    push_numbers(set, store, record_numbers(records))
+}
+
+/// [`push`] of records that are handed in as a flat list, seven numbers each: a place, and six words of which the first l are the leaf.
+/// Row 10 also for a list that is not a multiple of seven.
 ///
 /// [`record_numbers`] makes the flat list of [`Record`]s.
-pub fn push(set: &SetNumbers, store: &mut [u64], records: &[u64]) -> Result<u64, Refusal> {
+pub fn push_numbers(set: &SetNumbers, store: &mut [u64], numbers: &[u64]) -> Result<u64, Refusal> {
     // SAFETY: each pointer comes with its slice's length; the slice and the number that are written are borrowed alone.
     written(|made| unsafe {
-        call!(opening_tree_push, set, store.as_mut_ptr(), store.len(), records.as_ptr(), records.len(), made)
+        call!(opening_tree_push_numbers, set, store.as_mut_ptr(), store.len(), numbers.as_ptr(), numbers.len(), made)
     })
 }
 
@@ -347,7 +352,7 @@ mod tests {
                 sys::opening_tree_inverse(0, number),
                 sys::opening_tree_seventh_root(P, number),
                 call!(opening_tree_replace, set, store.as_mut_ptr(), 6, 2, [1, 1].as_ptr(), 2, number),
-                call!(opening_tree_push, set, store.as_mut_ptr(), 6, [2, 0, 0, 0, 0, 0, 0].as_ptr(), 7, number),
+                call!(opening_tree_push_numbers, set, store.as_mut_ptr(), 6, [2, 0, 0, 0, 0, 0, 0].as_ptr(), 7, number),
                 call!(
                     opening_tree_extract,
                     set,

@@ -56,7 +56,7 @@ with_a_set! {
         leaf_count: usize,
         made: *mut u64
     );
-    fn opening_tree_push(store: *mut u64, store_count: usize, records: *const u64, records_count: usize, made: *mut u64);
+    fn opening_tree_push_numbers(store: *mut u64, store_count: usize, numbers: *const u64, numbers_count: usize, made: *mut u64);
     fn opening_tree_extract(
         root: *const u64,
         root_count: usize,

@@ -81,6 +81,6 @@ impl Tree {
 
     /// Makes the replacements in order, all or none, and answers the compressions made, h for each. Rows 10 to 12.
     pub fn push(&mut self, records: &[Record]) -> Result<u64, Refusal> {
-        entries::push(&self.set.numbers(), &mut self.store, entries::record_numbers(records))
+        entries::push(&self.set.numbers(), &mut self.store, records)
     }
 }

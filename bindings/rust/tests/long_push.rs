@@ -26,7 +26,7 @@ fn a_push_of_over_2_to_the_32_records_is_refused() {
     let records: &[u64] = unsafe { std::slice::from_raw_parts(mapped.cast(), count) };
     let set = published::width_8(2, 0).expect("no row applies");
     let mut store = [1, 2];
-    assert_eq!(entries::push(&set.numbers(), &mut store, records), Err(Refusal::BadLength));
+    assert_eq!(entries::push_numbers(&set.numbers(), &mut store, records), Err(Refusal::BadLength));
     assert_eq!(store, [1, 2]);
     // SAFETY: the whole mapping, to which no reference is used any more.
     assert_eq!(unsafe { munmap(mapped, count * 8) }, 0);

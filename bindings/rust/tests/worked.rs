@@ -266,7 +266,10 @@ fn every_function_gives_a_known_answer() {
     assert_eq!(store, [1, 0, 0, 0, 6, 4]);
     let mut store = [2, 3, 4, 5, 9, 9];
     let records = [Record { place: 1, words: [0; 6] }, Record { place: 0, words: [1, 0, P, P, P, P] }];
-    assert_eq!(entries::push(&T, &mut store, entries::record_numbers(&records)), Ok(2));
+    assert_eq!(entries::push(&T, &mut store, &records), Ok(2));
+    assert_eq!(store, [1, 0, 0, 0, 6, 4]);
+    let mut store = [2, 3, 4, 5, 9, 9];
+    assert_eq!(entries::push_numbers(&T, &mut store, entries::record_numbers(&records)), Ok(2));
     assert_eq!(store, [1, 0, 0, 0, 6, 4]);
 
     let (mut first_row, mut second_row) = ([0; 4], [0; 4]);

@@ -46,7 +46,7 @@ pub extern "C" fn opening_tree_replace(
 
 // The leaves of a list of records at their places and the nodes above them, seven numbers a record; the compressions made.
 #[no_mangle]
-pub extern "C" fn opening_tree_push(
+pub extern "C" fn opening_tree_push_numbers(
     width: u64,
     node_size: u64,
     height: u64,

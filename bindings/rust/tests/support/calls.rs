@@ -153,7 +153,7 @@ impl Call {
             (Entry::Verify, &[place], [root, leaf, siblings]) => entries::verify(set, root, place, leaf, siblings).into(),
             (Entry::ReadLevel, &[level], [siblings, part]) => row(entries::read_level(set, siblings, level, part)).into(),
             (Entry::Replace, &[place], [store, leaf]) => row(entries::replace(set, store, place, leaf)).into(),
-            (Entry::Push, [], [store, records]) => row(entries::push(set, store, records)).into(),
+            (Entry::Push, [], [store, records]) => row(entries::push_numbers(set, store, records)).into(),
             (Entry::Extract, &[place], [root, a, a_siblings, b, b_siblings, a_row, b_row]) => {
                 row(entries::extract(set, root, place, a, a_siblings, b, b_siblings, a_row, b_row)).into()
             }

@@ -2,8 +2,8 @@ use mathlib.Core.Path.{ap, _∙_}
 use borrow.Author.Needs.{needs}
 use Rattle.replies.specs.Replies.{numberOf}
 use Rattle.exports.proofs.Calls.{turned-number, turned-buffer, turned-value, passed, passed-buffer, same-value}
-use Rattle.exports.proofs.changes.opening_tree_push.Statement.{statement}
-use Rattle.exports.proofs.changes.opening_tree_push.Tie as tie
+use Rattle.exports.proofs.changes.opening_tree_push_numbers.Statement.{statement}
+use Rattle.exports.proofs.changes.opening_tree_push_numbers.Tie as tie
 
 hold-requires : tie.Need-hold-requires
 hold-requires c κs = search needs
@@ -32,7 +32,7 @@ returns-2 c =
     let said = w .push-listed .ensures .0 ∙ passed _ _ e z _ in
     (c .of-changed .ensures .0 ∙ ap numberOf said, w .push-listed .ensures .1 ∙ passed-buffer _ _ e z _ _, c .of-changed .ensures .1 ∙ same-value said _)
 
-pub opening-tree-push-spec : {M : Type 1} → statement M
-opening-tree-push-spec =
+pub opening-tree-push-numbers-spec : {M : Type 1} → statement M
+opening-tree-push-numbers-spec =
     tie.close
     (tie.spec hold-requires returns push-listed-requires of-changed-requires same-length returns-2)
