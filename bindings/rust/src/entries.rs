@@ -2,7 +2,7 @@
 //! the table, and after a refusal every buffer holds what it held.
 //!
 //! Below t is the width, l the node size, h the height and k = t / l. A store is its levels one after another, leaves first,
-//! l numbers a node. Every function that takes a set judges it first: rows 1 to 9.
+//! l numbers a node. Every function that takes a set validates it first: rows 1 to 9.
 //!
 //! ```
 //! use opening_tree::entries::{self, SetNumbers};
@@ -139,7 +139,7 @@ pub fn seventh_root(y: u64) -> Result<u64, Refusal> {
     written(|result| unsafe { sys::opening_tree_seventh_root(y, result) })
 }
 
-/// Judges a set. Rows 1 to 9.
+/// Whether a set is accepted. Rows 1 to 9.
 pub fn validate(set: &SetNumbers) -> Result<(), Refusal> {
     // SAFETY: each pointer comes with its slice's length.
     done(unsafe { call!(opening_tree_validate, set) })

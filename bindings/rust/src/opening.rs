@@ -1,4 +1,4 @@
-//! Roots, openings and collisions: numbers that may come from anyone, and are judged where they are used.
+//! Roots, openings and collisions: numbers that may come from anyone, and are checked where they are used.
 
 /// A root: l numbers, kept for a whole tree.
 ///

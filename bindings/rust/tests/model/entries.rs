@@ -2,7 +2,7 @@
 
 use super::field;
 use super::permutation;
-use super::set::{judge, refuse, Set};
+use super::set::{check_set, refuse, Set};
 use super::tree;
 
 const RECORD_NUMBERS: usize = 7;
@@ -54,11 +54,11 @@ pub fn seventh_root(y: u64) -> Result<u64, u8> {
 }
 
 pub fn validate(set: &Set) -> Result<(), u8> {
-    judge(set)
+    check_set(set)
 }
 
 pub fn permute(set: &Set, state: &mut [u64]) -> Result<(), u8> {
-    judge(set)?;
+    check_set(set)?;
     lengths(&[(state, set.width as u128)])?;
     words(state)?;
     state.copy_from_slice(&permutation::permute(set, state));
@@ -66,7 +66,7 @@ pub fn permute(set: &Set, state: &mut [u64]) -> Result<(), u8> {
 }
 
 pub fn unpermute(set: &Set, state: &mut [u64]) -> Result<(), u8> {
-    judge(set)?;
+    check_set(set)?;
     lengths(&[(state, set.width as u128)])?;
     words(state)?;
     state.copy_from_slice(&permutation::unpermute(set, state));
@@ -74,7 +74,7 @@ pub fn unpermute(set: &Set, state: &mut [u64]) -> Result<(), u8> {
 }
 
 pub fn compress(set: &Set, state: &[u64], node: &mut [u64]) -> Result<(), u8> {
-    judge(set)?;
+    check_set(set)?;
     lengths(&[(state, set.width as u128), (node, set.node_size as u128)])?;
     words(state)?;
     node.copy_from_slice(&permutation::compress(set, state));
@@ -82,7 +82,7 @@ pub fn compress(set: &Set, state: &[u64], node: &mut [u64]) -> Result<(), u8> {
 }
 
 pub fn build(set: &Set, leaves: &[u64], store: &mut [u64]) -> Result<(), u8> {
-    judge(set)?;
+    check_set(set)?;
     lengths(&[(leaves, set.leaf_words()), (store, set.store_words())])?;
     words(leaves)?;
     store.copy_from_slice(&tree::store(set, leaves));
@@ -90,7 +90,7 @@ pub fn build(set: &Set, leaves: &[u64], store: &mut [u64]) -> Result<(), u8> {
 }
 
 pub fn root(set: &Set, store: &[u64], node: &mut [u64]) -> Result<(), u8> {
-    judge(set)?;
+    check_set(set)?;
     lengths(&[(store, set.store_words()), (node, set.node_size as u128)])?;
     let last = &store[store.len() - node.len()..];
     words(last)?;
@@ -99,7 +99,7 @@ pub fn root(set: &Set, store: &[u64], node: &mut [u64]) -> Result<(), u8> {
 }
 
 pub fn storeless_root(set: &Set, leaves: &[u64], node: &mut [u64]) -> Result<(), u8> {
-    judge(set)?;
+    check_set(set)?;
     lengths(&[(leaves, set.leaf_words()), (node, set.node_size as u128)])?;
     words(leaves)?;
     node.copy_from_slice(&tree::node(set, leaves, set.height, 0));
@@ -107,7 +107,7 @@ pub fn storeless_root(set: &Set, leaves: &[u64], node: &mut [u64]) -> Result<(),
 }
 
 pub fn open(set: &Set, store: &[u64], place: u64, siblings: &mut [u64]) -> Result<(), u8> {
-    judge(set)?;
+    check_set(set)?;
     lengths(&[(store, set.store_words()), (siblings, set.opening_words())])?;
     below(place, set.places())?;
     let opening = tree::opening(set, store, place);
@@ -118,7 +118,7 @@ pub fn open(set: &Set, store: &[u64], place: u64, siblings: &mut [u64]) -> Resul
 
 /// Whether the opening is accepted.
 pub fn verify(set: &Set, root: &[u64], place: u64, leaf: &[u64], siblings: &[u64]) -> Result<bool, u8> {
-    judge(set)?;
+    check_set(set)?;
     let l = set.node_size as u128;
     lengths(&[(root, l), (leaf, l), (siblings, set.opening_words())])?;
     below(place, set.places())?;
@@ -127,7 +127,7 @@ pub fn verify(set: &Set, root: &[u64], place: u64, leaf: &[u64], siblings: &[u64
 }
 
 pub fn read_level(set: &Set, siblings: &[u64], level: u64, part: &mut [u64]) -> Result<(), u8> {
-    judge(set)?;
+    check_set(set)?;
     lengths(&[(siblings, set.opening_words()), (part, set.part_words())])?;
     below(level, set.height as u128)?;
     let start = level as usize * part.len();
@@ -138,7 +138,7 @@ pub fn read_level(set: &Set, siblings: &[u64], level: u64, part: &mut [u64]) -> 
 }
 
 pub fn replace(set: &Set, store: &mut [u64], place: u64, leaf: &[u64]) -> Result<u64, u8> {
-    judge(set)?;
+    check_set(set)?;
     lengths(&[(store, set.store_words()), (leaf, set.node_size as u128)])?;
     below(place, set.places())?;
     words(leaf)?;
@@ -147,7 +147,7 @@ pub fn replace(set: &Set, store: &mut [u64], place: u64, leaf: &[u64]) -> Result
 }
 
 pub fn push(set: &Set, store: &mut [u64], records: &[u64]) -> Result<u64, u8> {
-    judge(set)?;
+    check_set(set)?;
     let l = set.node_size as usize;
     lengths(&[(store, set.store_words())])?;
     refuse(10, !records.len().is_multiple_of(RECORD_NUMBERS) || (records.len() / RECORD_NUMBERS) as u128 > 1 << 32)?;
@@ -174,7 +174,7 @@ pub fn extract(
     first_row: &mut [u64],
     second_row: &mut [u64],
 ) -> Result<u64, u8> {
-    judge(set)?;
+    check_set(set)?;
     let (t, l, opening) = (set.width as u128, set.node_size as u128, set.opening_words());
     lengths(&[(root, l), (first, l), (first_siblings, opening), (second, l), (second_siblings, opening)])?;
     lengths(&[(first_row, t), (second_row, t)])?;

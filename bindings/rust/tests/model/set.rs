@@ -1,4 +1,4 @@
-//! Parameter sets of any numbers, and the rows that judge them.
+//! Parameter sets of any numbers, and the rows that refuse them.
 
 use super::field::{add, inverse, is_word};
 
@@ -30,7 +30,7 @@ pub fn refuse(row: u8, condition: bool) -> Result<(), u8> {
 }
 
 /// Rows 1 to 9. Each test presumes that those before it did not apply.
-pub fn judge(set: &Set) -> Result<(), u8> {
+pub fn check_set(set: &Set) -> Result<(), u8> {
     let (t, l, h) = (set.width, set.node_size, set.height);
     let not_words = |list: &[u64]| !list.iter().all(|&n| is_word(n));
     refuse(1, t != 4 && t != 8 && t != 12)?;

@@ -3,7 +3,7 @@
 use super::calls::{Call, Entry};
 use super::generator::Generator;
 use crate::model::field::{self, P};
-use crate::model::set::{judge, Set};
+use crate::model::set::{check_set, Set};
 use crate::model::tree;
 
 /// Every width with every node size.
@@ -22,7 +22,7 @@ pub fn set_of(generator: &mut Generator, shape: (u64, u64), height: u64, full_ro
         let diagonal = (0..width).map(|_| generator.word().max(1)).collect();
         let constants = generator.words((width * full_rounds + partial_rounds) as usize);
         let set = Set { width, node_size, height, full_rounds, partial_rounds, diagonal, constants };
-        match judge(&set) {
+        match check_set(&set) {
             Ok(()) => return set,
             Err(row) => assert_eq!(row, 9, "only the diagonal's words are left to chance"),
         }

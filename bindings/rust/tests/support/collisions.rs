@@ -25,7 +25,7 @@ use super::roots::roots;
 use crate::model::field::{add, add_lists, inverse, multiply, power, seventh_power, seventh_root, subtract, subtract_lists};
 use crate::model::linear::{inverse_matrix, matrix_of, times, Matrix};
 use crate::model::permutation::{external_layer, partial_rounds, undo_partial_rounds};
-use crate::model::set::{judge, Set};
+use crate::model::set::{check_set, Set};
 use crate::model::tree::climb;
 
 /// The levels at which a collision's rows compress alike.
@@ -300,7 +300,7 @@ impl Search<'_> {
         let partial_rounds = self.partial.len() as u64;
         let (width, node_size) = shape;
         let set = Set { width, node_size, height: 0, full_rounds: 2, partial_rounds, diagonal: self.diagonal, constants };
-        assert_eq!(judge(&set), Ok(()));
+        assert_eq!(check_set(&set), Ok(()));
         Collision { set, rows, digits }
     }
 }
