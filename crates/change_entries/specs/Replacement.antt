@@ -2,9 +2,9 @@
 use mathlib.Core.Bool.{not, _&&_}
 use mathlib.Core.List.{List, [], _∷_, _++_}
 use Prim.Native.Nat.{ℕ, suc}
-use Rattle.refusals.specs.Table.{TableRow, row, notWords, Reply, refused, done, reply, after}
+use Rattle.refusals.specs.Table.{Refusal, refusal, notWords, Reply, refused, done, reply, after}
 use Rattle.parameters.specs.declared.ParameterSet.{ParameterSet}
-use Rattle.parameters.specs.ParameterSet.{setRows}
+use Rattle.parameters.specs.ParameterSet.{setRefusals}
 use Rattle.merkle.specs.Openings.{opening}
 use Rattle.merkle.specs.Replacement.{Counted, replace}
 use Rattle.trees.specs.SetTrees.{treeOf, storeWords}
@@ -18,10 +18,10 @@ changedReply (Compressions n) = done (n ∷ [])
 changedReply (Refused n) = refused n
 
 -- Row 12 covers the leaf and "for one replacement also the stored siblings it reads".
-unfoldable pub replaceRows : ℕ → ParameterSet → List ℕ → ℕ → List ℕ → List TableRow
-replaceRows p s store q leaf =
-    setRows p s
-    ++ (row 10 (not (has store (storeWords p s) && has leaf (s .«node_size»)))
+unfoldable pub replaceRefusals : ℕ → ParameterSet → List ℕ → ℕ → List ℕ → List Refusal
+replaceRefusals p s store q leaf =
+    setRefusals p s
+    ++ (refusal 10 (not (has store (storeWords p s) && has leaf (s .«node_size»)))
     ∷ noPlace p s q
     ∷ notWords p (leaf ++ opening (treeOf p s) (s .height) q store) ∷ [])
 
@@ -31,7 +31,7 @@ replacement p s store q leaf = replace (treeOf p s) (s .height) q leaf store
 
 -- "and reports the compressions made."
 unfoldable pub replaceReply : ℕ → ParameterSet → List ℕ → ℕ → List ℕ → Reply
-replaceReply p s store q leaf = reply (replaceRows p s store q leaf) (replacement p s store q leaf .made ∷ [])
+replaceReply p s store q leaf = reply (replaceRefusals p s store q leaf) (replacement p s store q leaf .made ∷ [])
 
 unfoldable pub replaced : ℕ → ParameterSet → List ℕ → ℕ → List ℕ → List ℕ
 replaced p s store q leaf = after (replaceReply p s store q leaf) store (replacement p s store q leaf .store)

@@ -1,19 +1,19 @@
 // A leaf replaced in a store, under a set that is handed in.
 ghost use mathlib.Core.Path.{_≡_};
 ghost use Rattle.modular.specs.Goldilocks.{p};
-ghost use Rattle.refusals.specs.Table.{firstRow};
-ghost use Rattle.change_entries.specs.Replacement.{changedReply, replaceRows, replaceReply, replaced};
+ghost use Rattle.refusals.specs.Table.{firstRefusal};
+ghost use Rattle.change_entries.specs.Replacement.{changedReply, replaceRefusals, replaceReply, replaced};
 use crate::changed::Changed;
 use parameters::ParameterSet;
 use trees::sets;
 
 // The first row that turns back a set, a store, a place and a leaf, or 0.
-fn row_of_replace(set: ParameterSet, store: &[u64], place: u64, leaf: &[u64]) -> u8
-    ensures { λ r. ⌜ r ≡ firstRow (replaceRows p set (now (store .entry)) place (now (leaf .entry))) ⌝ }
+fn refusal_of_replace(set: ParameterSet, store: &[u64], place: u64, leaf: &[u64]) -> u8
+    ensures { λ r. ⌜ r ≡ firstRefusal (replaceRefusals p set (now (store .entry)) place (now (leaf .entry))) ⌝ }
 {
-    let row = state_entries::row_of(set);
-    if row != 0 {
-        return row;
+    let number = state_entries::refusal_of(set);
+    if number != 0 {
+        return number;
     }
     if store.len() != sets::store_words(set) {
         return 10;
@@ -39,9 +39,9 @@ pub fn replace(set: ParameterSet, store: &mut [u64], place: u64, leaf: &[u64]) -
     ensures { λ r. ⌜ (changedReply r ≡ replaceReply p set (now (store .entry)) place (now (leaf .entry)))
         × (now (store .exit) ≡ replaced p set (now (store .entry)) place (now (leaf .entry))) ⌝ }
 {
-    let row = row_of_replace(set, store, place, leaf);
-    if row != 0 {
-        return Changed::Refused(row);
+    let number = refusal_of_replace(set, store, place, leaf);
+    if number != 0 {
+        return Changed::Refused(number);
     }
     let d = sets::dimensions(set);
     let diagonal = set.diagonal;

@@ -9,18 +9,18 @@ use lib.ListN.{length}
 use Rattle.modular.specs.Arithmetic.{allWords}
 use Rattle.modular.specs.Goldilocks.{p}
 use Rattle.modular.proofs.Words.{and-true, left-true, right-true, words-left, words-right, words-append}
-use Rattle.refusals.specs.Table.{firstRow}
+use Rattle.refusals.specs.Table.{firstRefusal}
 use Rattle.refusals.proofs.Table.{Numbered, none, next, numbered-append}
 use Rattle.refusals.proofs.LengthsAndWords.{both-good}
 use Rattle.refusals.proofs.LengthsPlacesAndWords.{at-words, no-twelve}
 use Rattle.refusals.proofs.LengthsPlacesAndWords as three
 use Rattle.parameters.specs.declared.ParameterSet.{ParameterSet}
-use Rattle.parameters.specs.ParameterSet.{setRows}
+use Rattle.parameters.specs.ParameterSet.{setRefusals}
 use Rattle.parameters.proofs.Accepted.{set-numbered}
 use Rattle.trees.specs.SetTrees.{leafCount, openingWords}
-use Rattle.tree_entries.specs.Trees.{has, verifyRows}
+use Rattle.tree_entries.specs.Trees.{has, verifyRefusals}
 use Rattle.tree_entries.proofs.AcceptedTrees.{first-long, second-long}
-use Rattle.extraction_entries.specs.Extraction.{Pair, opens, pairFits, pairRows, extractRows}
+use Rattle.extraction_entries.specs.Extraction.{Pair, opens, pairFits, pairRefusals, extractRefusals}
 
 -- a leaf with its siblings
 pub record Opening (s : ParameterSet) (leaf siblings : List ℕ) : Type 0 where
@@ -33,7 +33,7 @@ opens-true : {s : ParameterSet} {leaf siblings : List ℕ} → Opening s leaf si
 opens-true O = and-true _ _ (eq-eqb _ _ (O .leaf-long)) (eq-eqb _ _ (O .siblings-long))
 
 pub record Paired (s : ParameterSet) (two : Pair) (first second : List ℕ) : Type 0 where
-  pub set : firstRow (setRows p s) ≡ 0
+  pub set : firstRefusal (setRefusals p s) ≡ 0
   pub root-long : length (two .root) ≡ s .«node_size»
   pub root-words : allWords p (two .root) ≡ true
   pub place : two .place < leafCount p s
@@ -45,22 +45,22 @@ pub record Paired (s : ParameterSet) (two : Pair) (first second : List ℕ) : Ty
 module _ (s : ParameterSet) (two : Pair) (first second : List ℕ) where
   open Pair two using (root as top, place as q, firstLeaf as a, firstSiblings as xs, secondLeaf as b, secondSiblings as ys)
 
-  pub pair-numbered : Numbered (pairRows p s two first second)
-  unfolding pairRows
+  pub pair-numbered : Numbered (pairRefusals p s two first second)
+  unfolding pairRefusals
   pair-numbered = three.all-numbered p _ (set-numbered p s) _ _ _
 
-  pub extract-numbered : Numbered (extractRows p s two first second)
-  unfolding extractRows
+  pub extract-numbered : Numbered (extractRefusals p s two first second)
+  unfolding extractRefusals
   extract-numbered = numbered-append pair-numbered (next (lit< tt) (next (lit< tt) none))
 
-  pub pair-passed : firstRow (pairRows p s two first second) ≡ 0 → Paired s two first second
-  unfolding pairRows pairFits
+  pub pair-passed : firstRefusal (pairRefusals p s two first second) ≡ 0 → Paired s two first second
+  unfolding pairRefusals pairFits
   pair-passed z =
       let l = s .«node_size» in
       let n = openingWords p s in
       let rows : Bool = has first (s .width) && has second (s .width) in
       let later : Bool = opens p s b ys && rows in
-      let P = three.passed p (setRows p s) (set-numbered p s) (not (has top l && (opens p s a xs && later))) (not (ltb q (leafCount p s))) (top ++ (a ++ (xs ++ (b ++ ys)))) z in
+      let P = three.passed p (setRefusals p s) (set-numbered p s) (not (has top l && (opens p s a xs && later))) (not (ltb q (leafCount p s))) (top ++ (a ++ (xs ++ (b ++ ys)))) z in
       let all = not-false (has top l && (opens p s a xs && later)) (P .lengths) in
       let behind = right-true (has top l) (opens p s a xs && later) all in
       let one = left-true (opens p s a xs) later behind in
@@ -91,8 +91,8 @@ module _ (s : ParameterSet) (two : Pair) (first second : List ℕ) where
         second-long = second-long first second (s .width) (s .width) buffers;
       }
 
-  pub pair-passes : Paired s two first second → firstRow (pairRows p s two first second) ≡ 0
-  unfolding pairRows pairFits
+  pub pair-passes : Paired s two first second → firstRefusal (pairRefusals p s two first second) ≡ 0
+  unfolding pairRefusals pairFits
   pair-passes P =
       at-words p _ (set-numbered p s) _ _ _ (P .set)
       (ap not (and-true _ _ (eq-eqb _ _ (P .root-long)) (and-true _ _ (opens-true (P .opening)) (and-true _ _ (opens-true (P .other)) (and-true _ _ (eq-eqb _ _ (P .first-long)) (eq-eqb _ _ (P .second-long)))))))
@@ -100,22 +100,22 @@ module _ (s : ParameterSet) (two : Pair) (first second : List ℕ) where
       ∙ no-twelve p _ (words-append p _ _ (P .root-words) (words-append p _ _ (P .opening .leaf-words) (words-append p _ _ (P .opening .siblings-words) (words-append p _ _ (P .other .leaf-words) (P .other .siblings-words)))))
 
 -- no row of the verdict turns back such an opening
-pub verify-passes : (s : ParameterSet) (top : List ℕ) (q : ℕ) (leaf siblings : List ℕ) → firstRow (setRows p s) ≡ 0 → length top ≡ s .«node_size» → allWords p top ≡ true
-    → q < leafCount p s → Opening s leaf siblings → firstRow (verifyRows p s top q leaf siblings) ≡ 0
-unfolding verifyRows
+pub verify-passes : (s : ParameterSet) (top : List ℕ) (q : ℕ) (leaf siblings : List ℕ) → firstRefusal (setRefusals p s) ≡ 0 → length top ≡ s .«node_size» → allWords p top ≡ true
+    → q < leafCount p s → Opening s leaf siblings → firstRefusal (verifyRefusals p s top q leaf siblings) ≡ 0
+unfolding verifyRefusals
 verify-passes s top q leaf siblings z e w i O =
     at-words p _ (set-numbered p s) _ _ _ z
     (both-good _ _ (and-true _ _ (eq-eqb _ _ e) (eq-eqb _ _ (O .leaf-long))) (eq-eqb _ _ (O .siblings-long))) (ap not (lt-ltb _ _ i))
     ∙ no-twelve p _ (words-append p _ _ w (words-append p _ _ (O .leaf-words) (O .siblings-words)))
 
 -- so rows 1 to 12 of a pair are past for either opening
-module _ (s : ParameterSet) (two : Pair) (first second : List ℕ) (none : firstRow (pairRows p s two first second) ≡ 0) where
-  pub first-passes : firstRow (verifyRows p s (two .root) (two .place) (two .firstLeaf) (two .firstSiblings)) ≡ 0
+module _ (s : ParameterSet) (two : Pair) (first second : List ℕ) (none : firstRefusal (pairRefusals p s two first second) ≡ 0) where
+  pub first-passes : firstRefusal (verifyRefusals p s (two .root) (two .place) (two .firstLeaf) (two .firstSiblings)) ≡ 0
   first-passes =
       let A = pair-passed s two first second none in
       verify-passes s (two .root) (two .place) (two .firstLeaf) (two .firstSiblings) (A .set) (A .root-long) (A .root-words) (A .place) (A .opening)
 
-  pub second-passes : firstRow (verifyRows p s (two .root) (two .place) (two .secondLeaf) (two .secondSiblings)) ≡ 0
+  pub second-passes : firstRefusal (verifyRefusals p s (two .root) (two .place) (two .secondLeaf) (two .secondSiblings)) ≡ 0
   second-passes =
       let A = pair-passed s two first second none in
       verify-passes s (two .root) (two .place) (two .secondLeaf) (two .secondSiblings) (A .set) (A .root-long) (A .root-words) (A .place) (A .other)

@@ -8,18 +8,18 @@ use Prim.Native.Nat.{ℕ, _<_}
 use borrow.Author.Tests.{not-false}
 use Rattle.modular.specs.Goldilocks.{p}
 use Rattle.modular.proofs.Words.{left-true, right-true}
-use Rattle.refusals.specs.Table.{row, firstRow}
-use Rattle.refusals.proofs.Table.{first-none, row-none}
+use Rattle.refusals.specs.Table.{refusal, firstRefusal}
+use Rattle.refusals.proofs.Table.{first-none, refusal-none}
 use Rattle.parameters.specs.declared.ParameterSet.{ParameterSet}
 use Rattle.merkle.specs.Lists.{same, lowest}
 use Rattle.merkle.specs.Openings.{pathRow, accepts}
 use Rattle.merkle.specs.Extraction.{Collision, collideAt, withRows, extract}
 use Rattle.merkle.specs.Statements.{Extracts}
 use Rattle.merkle.proofs.Lists.{same-false}
-use Rattle.collisions.specs.Levels.{levelOr}
+use Rattle.paths.specs.Levels.{levelOr}
 use Rattle.trees.specs.SetTrees.{treeOf}
 use Rattle.trees.proofs.SetTrees.{laws}
-use Rattle.extraction_entries.specs.Extraction.{Pair, pairRows, bothAccepted, extractRows, collision, levelOf, firstOf, secondOf}
+use Rattle.extraction_entries.specs.Extraction.{Pair, pairRefusals, bothAccepted, extractRefusals, collision, levelOf, firstOf, secondOf}
 use Rattle.extraction_entries.proofs.AcceptedPairs.{Paired, pair-numbered, pair-passed}
 
 -- a level of a collision, or another where there is none
@@ -27,24 +27,24 @@ level-or : ℕ → Option Collision → ℕ
 level-or d none = d
 level-or d (some c) = c .level
 
-module _ (s : ParameterSet) (two : Pair) (first second : List ℕ) (z : firstRow (extractRows p s two first second) ≡ 0) where
+module _ (s : ParameterSet) (two : Pair) (first second : List ℕ) (z : firstRefusal (extractRefusals p s two first second) ≡ 0) where
   open Pair two using (root as top, place as q, firstLeaf as a, firstSiblings as xs, secondLeaf as b, secondSiblings as ys)
 
-  pairs : (firstRow (pairRows p s two first second) ≡ 0) × (firstRow (row 14 (not (bothAccepted p s two)) ∷ row 15 (same a b) ∷ []) ≡ 0)
-  unfolding extractRows
-  pairs = first-none (pairRows p s two first second) (row 14 (not (bothAccepted p s two)) ∷ row 15 (same a b) ∷ []) (pair-numbered s two first second) z
+  pairs : (firstRefusal (pairRefusals p s two first second) ≡ 0) × (firstRefusal (refusal 14 (not (bothAccepted p s two)) ∷ refusal 15 (same a b) ∷ []) ≡ 0)
+  unfolding extractRefusals
+  pairs = first-none (pairRefusals p s two first second) (refusal 14 (not (bothAccepted p s two)) ∷ refusal 15 (same a b) ∷ []) (pair-numbered s two first second) z
 
   pub paired : Paired s two first second
   paired = pair-passed s two first second (pairs .0)
 
-  accepted : (not (bothAccepted p s two) ≡ false) × (firstRow (row 15 (same a b) ∷ []) ≡ 0)
-  accepted = row-none 13 (not (bothAccepted p s two)) (row 15 (same a b) ∷ []) (pairs .1)
+  accepted : (not (bothAccepted p s two) ≡ false) × (firstRefusal (refusal 15 (same a b) ∷ []) ≡ 0)
+  accepted = refusal-none 13 (not (bothAccepted p s two)) (refusal 15 (same a b) ∷ []) (pairs .1)
 
   pub both : bothAccepted p s two ≡ true
   both = not-false (bothAccepted p s two) (accepted .0)
 
   pub differ : a ≢ b
-  differ = same-false a b (row-none 14 (same a b) [] (accepted .1) .0)
+  differ = same-false a b (refusal-none 14 (same a b) [] (accepted .1) .0)
 
   abbrev one : Bool
   one = accepts (treeOf p s) (s .height) top q a xs

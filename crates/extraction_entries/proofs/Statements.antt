@@ -5,10 +5,10 @@ use mathlib.Core.Option.{Option}
 use Prim.Native.Nat.{ℕ, _<_}
 use Rattle.modular.specs.Goldilocks.{p}
 use Rattle.modular.proofs.Words.{left-true, right-true}
-use Rattle.refusals.specs.Table.{firstRow, done}
+use Rattle.refusals.specs.Table.{firstRefusal, done}
 use Rattle.refusals.proofs.Table.{reply-done, written-after}
 use Rattle.parameters.specs.declared.ParameterSet.{ParameterSet}
-use Rattle.parameters.specs.ParameterSet.{setRows}
+use Rattle.parameters.specs.ParameterSet.{setRefusals}
 use Rattle.merkle.specs.Openings.{pathRow, accepts}
 use Rattle.merkle.specs.Extraction.{Collision}
 use Rattle.merkle.proofs.Lists.{ne-same}
@@ -17,24 +17,24 @@ use Rattle.trees.proofs.Shapes.{keeps-words}
 use Rattle.state_entries.specs.Permutation.{compressUnder}
 use Rattle.trees.specs.SetTrees.{treeOf}
 use Rattle.trees.proofs.SetTrees.{valid-numbers, width-is, shape-regular}
-use Rattle.extraction_entries.specs.Extraction.{Pair, bothAccepted, extractRows, collision, levelOf, firstOf, secondOf, extractReply, extractedFirst, extractedSecond}
+use Rattle.extraction_entries.specs.Extraction.{Pair, bothAccepted, extractRefusals, collision, levelOf, firstOf, secondOf, extractReply, extractedFirst, extractedSecond}
 use Rattle.extraction_entries.specs.Statements.{IsRow, Collides, Written, Extracting}
 use Rattle.extraction_entries.proofs.AcceptedPairs.{Opening, extract-numbered}
 use Rattle.extraction_entries.proofs.Verdicts.{other-leaves}
 use Rattle.extraction_entries.proofs.Extracted.{paired, found, collided}
 
 -- what a verdict compresses at a level is a row
-row-at : (s : ParameterSet) → firstRow (setRows p s) ≡ 0 → (q : ℕ) (leaf siblings : List ℕ) → Opening s leaf siblings
+row-at : (s : ParameterSet) → firstRefusal (setRefusals p s) ≡ 0 → (q : ℕ) (leaf siblings : List ℕ) → Opening s leaf siblings
     → (j : ℕ) → j < s .height → IsRow s (pathRow (treeOf p s) q leaf siblings j)
 row-at s valid q leaf siblings O j below = (
   length-path-row (treeOf p s) (shape-regular s valid) (s .height) q leaf siblings (O .leaf-long) (O .siblings-long) j below ∙ width-is s valid,
   path-row-words (treeOf p s) (shape-regular s valid) (s .height) q leaf siblings (O .leaf-long) (O .siblings-long) p (keeps-words (valid-numbers s valid) (s .diagonal) (s .constants)) (O .leaf-words) (O .siblings-words) j below,
 )
 
-module _ (s : ParameterSet) (two : Pair) (first second : List ℕ) (z : firstRow (extractRows p s two first second) ≡ 0) where
+module _ (s : ParameterSet) (two : Pair) (first second : List ℕ) (z : firstRefusal (extractRefusals p s two first second) ≡ 0) where
   replies : extractReply p s two first second ≡ done (levelOf (collision p s two) ∷ [])
   unfolding extractReply
-  replies = reply-done (extractRows p s two first second) (levelOf (collision p s two) ∷ []) (extract-numbered s two first second) z
+  replies = reply-done (extractRefusals p s two first second) (levelOf (collision p s two) ∷ []) (extract-numbered s two first second) z
 
   one : extractedFirst p s two first second ≡ found s two first second z .collision .first
   unfolding firstOf extractedFirst

@@ -6,8 +6,8 @@ use mathlib.Core.List.{List, [], _∷_}
 use Prim.Native.Nat.{ℕ}
 use native.Mathlib.Omega.{arith}
 use Rattle.modular.specs.Goldilocks.{p}
-use Rattle.refusals.specs.Table.{row, firstRow, Reply, refused, done}
-use Rattle.refusals.proofs.Table.{first-back, reply-done, row-applies, row-passes}
+use Rattle.refusals.specs.Table.{refusal, firstRefusal, Reply, refused, done}
+use Rattle.refusals.proofs.Table.{first-back, reply-done, refusal-applies, refusal-passes}
 use Rattle.refusals.proofs.LengthsAndWords.{and-false-left, and-false-right}
 use Rattle.parameters.specs.declared.ParameterSet.{ParameterSet}
 use Rattle.modular.proofs.Words.{and-true}
@@ -16,9 +16,9 @@ use Rattle.merkle.specs.Openings.{accepts}
 use Rattle.tree_entries.specs.declared.verdict.Verdict.{Verdict}
 use Rattle.tree_entries.specs.declared.verdict.Verdict.the-variants.{Accepted, Rejected, Refused}
 use Rattle.trees.specs.SetTrees.{treeOf}
-use Rattle.tree_entries.specs.Trees.{verdictReply, verifyRows, verifyReply}
+use Rattle.tree_entries.specs.Trees.{verdictReply, verifyRefusals, verifyReply}
 use Rattle.tree_entries.proofs.AcceptedTrees.{verify-numbered}
-use Rattle.extraction_entries.specs.Extraction.{Pair, pairRows, bothAccepted, extractRows}
+use Rattle.extraction_entries.specs.Extraction.{Pair, pairRefusals, bothAccepted, extractRefusals}
 use Rattle.extraction_entries.proofs.AcceptedPairs.{pair-numbered}
 
 -- the number of a result, and 2 for a refusal
@@ -27,81 +27,81 @@ value (done (n ∷ ns)) = n
 value (done []) = 2
 value (refused n) = 2
 
-row-of-yes : (b : Bool) → _≡_ {A = ℕ} 1 (cond b 1 0) → _≡_ {A = ℕ} 0 (firstRow (row 14 (not b) ∷ []))
-unfolding firstRow
-row-of-yes true e = refl
-row-of-yes false e = absurd (omega (arith, e))
+refusal-of-yes : (b : Bool) → _≡_ {A = ℕ} 1 (cond b 1 0) → _≡_ {A = ℕ} 0 (firstRefusal (refusal 14 (not b) ∷ []))
+unfolding firstRefusal
+refusal-of-yes true e = refl
+refusal-of-yes false e = absurd (omega (arith, e))
 
-row-of-no : (b : Bool) → _≡_ {A = ℕ} 0 (cond b 1 0) → _≡_ {A = ℕ} 14 (firstRow (row 14 (not b) ∷ []))
-unfolding firstRow
-row-of-no true e = absurd (omega (arith, e))
-row-of-no false e = refl
+refusal-of-no : (b : Bool) → _≡_ {A = ℕ} 0 (cond b 1 0) → _≡_ {A = ℕ} 14 (firstRefusal (refusal 14 (not b) ∷ []))
+unfolding firstRefusal
+refusal-of-no true e = absurd (omega (arith, e))
+refusal-of-no false e = refl
 
 no-value : (b : Bool) → _≡_ {A = ℕ} 2 (cond b 1 0) → ⊥
 no-value true e = omega (arith, e)
 no-value false e = omega (arith, e)
 
-module _ (s : ParameterSet) (top : List ℕ) (q : ℕ) (leaf siblings : List ℕ) (none : firstRow (verifyRows p s top q leaf siblings) ≡ 0) where
+module _ (s : ParameterSet) (top : List ℕ) (q : ℕ) (leaf siblings : List ℕ) (none : firstRefusal (verifyRefusals p s top q leaf siblings) ≡ 0) where
   abbrev yes : Bool
   yes = accepts (treeOf p s) (s .height) top q leaf siblings
 
   module _ (v : Verdict) (said : verdictReply v ≡ verifyReply p s top q leaf siblings) where
     valued : value (verdictReply v) ≡ cond yes 1 0
     unfolding verifyReply
-    valued = ap value (said ∙ reply-done (verifyRows p s top q leaf siblings) (cond yes 1 0 ∷ []) (verify-numbered s top q leaf siblings) none)
+    valued = ap value (said ∙ reply-done (verifyRefusals p s top q leaf siblings) (cond yes 1 0 ∷ []) (verify-numbered s top q leaf siblings) none)
 
-    pub row-of-accepted : v ≡ Accepted → _≡_ {A = ℕ} 0 (firstRow (row 14 (not yes) ∷ []))
+    pub refusal-of-accepted : v ≡ Accepted → _≡_ {A = ℕ} 0 (firstRefusal (refusal 14 (not yes) ∷ []))
     unfolding verdictReply
-    row-of-accepted e = row-of-yes yes (sym (ap (λ (w : Verdict). value (verdictReply w)) e) ∙ valued)
+    refusal-of-accepted e = refusal-of-yes yes (sym (ap (λ (w : Verdict). value (verdictReply w)) e) ∙ valued)
 
-    pub row-of-rejected : v ≡ Rejected → _≡_ {A = ℕ} 14 (firstRow (row 14 (not yes) ∷ []))
+    pub refusal-of-rejected : v ≡ Rejected → _≡_ {A = ℕ} 14 (firstRefusal (refusal 14 (not yes) ∷ []))
     unfolding verdictReply
-    row-of-rejected e = row-of-no yes (sym (ap (λ (w : Verdict). value (verdictReply w)) e) ∙ valued)
+    refusal-of-rejected e = refusal-of-no yes (sym (ap (λ (w : Verdict). value (verdictReply w)) e) ∙ valued)
 
     -- nothing is refused there
-    pub row-of-refused : (n : ℕ) → v ≡ Refused n → n ≡ firstRow (row 14 (not yes) ∷ [])
+    pub refusal-of-refused : (n : ℕ) → v ≡ Refused n → n ≡ firstRefusal (refusal 14 (not yes) ∷ [])
     unfolding verdictReply
-    row-of-refused n e = absurd (no-value yes (sym (ap (λ (w : Verdict). value (verdictReply w)) e) ∙ valued))
+    refusal-of-refused n e = absurd (no-value yes (sym (ap (λ (w : Verdict). value (verdictReply w)) e) ∙ valued))
 
 -- the row of an opening, by whether it is accepted
-pub opening-accepted : (b : Bool) {r : ℕ} → r ≡ firstRow (row 14 (not b) ∷ []) → r ≡ 0 → b ≡ true
-unfolding firstRow
+pub opening-accepted : (b : Bool) {r : ℕ} → r ≡ firstRefusal (refusal 14 (not b) ∷ []) → r ≡ 0 → b ≡ true
+unfolding firstRefusal
 opening-accepted true e z = refl
 opening-accepted false e z = absurd (omega (arith, sym e ∙ z))
 
-pub opening-rejected : (b : Bool) {r : ℕ} → r ≡ firstRow (row 14 (not b) ∷ []) → r ≢ 0 → (b ≡ false) × (r ≡ 14)
-unfolding firstRow
+pub opening-rejected : (b : Bool) {r : ℕ} → r ≡ firstRefusal (refusal 14 (not b) ∷ []) → r ≢ 0 → (b ≡ false) × (r ≡ 14)
+unfolding firstRefusal
 opening-rejected true e n = absurd (n e)
 opening-rejected false e n = (refl, e)
 
 -- the extractor's rows behind 12
-module _ (s : ParameterSet) (two : Pair) (first second : List ℕ) (none : firstRow (pairRows p s two first second) ≡ 0) where
+module _ (s : ParameterSet) (two : Pair) (first second : List ℕ) (none : firstRefusal (pairRefusals p s two first second) ≡ 0) where
   abbrev one : Bool
   one = accepts (treeOf p s) (s .height) (two .root) (two .place) (two .firstLeaf) (two .firstSiblings)
 
   abbrev other : Bool
   other = accepts (treeOf p s) (s .height) (two .root) (two .place) (two .secondLeaf) (two .secondSiblings)
 
-  behind : firstRow (extractRows p s two first second) ≡ firstRow (row 14 (not (bothAccepted p s two)) ∷ row 15 (same (two .firstLeaf) (two .secondLeaf)) ∷ [])
-  unfolding extractRows
-  behind = first-back (pairRows p s two first second) _ (pair-numbered s two first second) none
+  behind : firstRefusal (extractRefusals p s two first second) ≡ firstRefusal (refusal 14 (not (bothAccepted p s two)) ∷ refusal 15 (same (two .firstLeaf) (two .secondLeaf)) ∷ [])
+  unfolding extractRefusals
+  behind = first-back (pairRefusals p s two first second) _ (pair-numbered s two first second) none
 
-  pub first-not-accepted : one ≡ false → _≡_ {A = ℕ} 14 (firstRow (extractRows p s two first second))
+  pub first-not-accepted : one ≡ false → _≡_ {A = ℕ} 14 (firstRefusal (extractRefusals p s two first second))
   unfolding bothAccepted
-  first-not-accepted e = sym (behind ∙ row-applies 14 (not (bothAccepted p s two)) _ (ap not (and-false-left one other e)))
+  first-not-accepted e = sym (behind ∙ refusal-applies 14 (not (bothAccepted p s two)) _ (ap not (and-false-left one other e)))
 
-  pub second-not-accepted : one ≡ true → other ≡ false → _≡_ {A = ℕ} 14 (firstRow (extractRows p s two first second))
+  pub second-not-accepted : one ≡ true → other ≡ false → _≡_ {A = ℕ} 14 (firstRefusal (extractRefusals p s two first second))
   unfolding bothAccepted
-  second-not-accepted e f = sym (behind ∙ row-applies 14 (not (bothAccepted p s two)) _ (ap not (and-false-right one other e f)))
+  second-not-accepted e f = sym (behind ∙ refusal-applies 14 (not (bothAccepted p s two)) _ (ap not (and-false-right one other e f)))
 
   module _ (e : one ≡ true) (f : other ≡ true) where
-    accepted : firstRow (extractRows p s two first second) ≡ firstRow (row 15 (same (two .firstLeaf) (two .secondLeaf)) ∷ [])
+    accepted : firstRefusal (extractRefusals p s two first second) ≡ firstRefusal (refusal 15 (same (two .firstLeaf) (two .secondLeaf)) ∷ [])
     unfolding bothAccepted
-    accepted = behind ∙ row-passes 14 (not (bothAccepted p s two)) _ (ap not (and-true one other e f))
+    accepted = behind ∙ refusal-passes 14 (not (bothAccepted p s two)) _ (ap not (and-true one other e f))
 
-    pub equal-leaves : same (two .firstLeaf) (two .secondLeaf) ≡ true → _≡_ {A = ℕ} 15 (firstRow (extractRows p s two first second))
-    equal-leaves g = sym (accepted ∙ row-applies 15 (same (two .firstLeaf) (two .secondLeaf)) [] g)
+    pub equal-leaves : same (two .firstLeaf) (two .secondLeaf) ≡ true → _≡_ {A = ℕ} 15 (firstRefusal (extractRefusals p s two first second))
+    equal-leaves g = sym (accepted ∙ refusal-applies 15 (same (two .firstLeaf) (two .secondLeaf)) [] g)
 
-    pub other-leaves : same (two .firstLeaf) (two .secondLeaf) ≡ false → _≡_ {A = ℕ} 0 (firstRow (extractRows p s two first second))
-    unfolding firstRow
-    other-leaves g = sym (accepted ∙ row-passes 15 (same (two .firstLeaf) (two .secondLeaf)) [] g)
+    pub other-leaves : same (two .firstLeaf) (two .secondLeaf) ≡ false → _≡_ {A = ℕ} 0 (firstRefusal (extractRefusals p s two first second))
+    unfolding firstRefusal
+    other-leaves g = sym (accepted ∙ refusal-passes 15 (same (two .firstLeaf) (two .secondLeaf)) [] g)

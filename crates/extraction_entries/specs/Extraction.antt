@@ -3,9 +3,9 @@ use mathlib.Core.Bool.{Bool, not, _&&_}
 use mathlib.Core.List.{List, [], _∷_, _++_}
 use mathlib.Core.Option.{Option, none, some}
 use Prim.Native.Nat.{ℕ}
-use Rattle.refusals.specs.Table.{TableRow, row, notWords, Reply, refused, done, reply, after}
+use Rattle.refusals.specs.Table.{Refusal, refusal, notWords, Reply, refused, done, reply, after}
 use Rattle.parameters.specs.declared.ParameterSet.{ParameterSet}
-use Rattle.parameters.specs.ParameterSet.{setRows}
+use Rattle.parameters.specs.ParameterSet.{setRefusals}
 use Rattle.merkle.specs.Lists.{same}
 use Rattle.merkle.specs.Openings.{accepts}
 use Rattle.merkle.specs.Extraction.{Collision, extract}
@@ -45,10 +45,10 @@ module _ (p : ℕ) (s : ParameterSet) (two : Pair) where
       && (opens p s a xs && (opens p s b ys && (has first (s .width) && has second (s .width))))
 
   -- rows 1 to 12
-  unfoldable pub pairRows : List ℕ → List ℕ → List TableRow
-  pairRows first second =
-      setRows p s
-      ++ (row 10 (not (pairFits first second))
+  unfoldable pub pairRefusals : List ℕ → List ℕ → List Refusal
+  pairRefusals first second =
+      setRefusals p s
+      ++ (refusal 10 (not (pairFits first second))
       ∷ noPlace p s q
       ∷ notWords p (top ++ (a ++ (xs ++ (b ++ ys)))) ∷ [])
 
@@ -57,8 +57,8 @@ module _ (p : ℕ) (s : ParameterSet) (two : Pair) where
   bothAccepted = accepts (treeOf p s) (s .height) top q a xs && accepts (treeOf p s) (s .height) top q b ys
 
   -- "15 | extractor: equal leaves"
-  unfoldable pub extractRows : List ℕ → List ℕ → List TableRow
-  extractRows first second = pairRows first second ++ (row 14 (not bothAccepted) ∷ row 15 (same a b) ∷ [])
+  unfoldable pub extractRefusals : List ℕ → List ℕ → List Refusal
+  extractRefusals first second = pairRefusals first second ++ (refusal 14 (not bothAccepted) ∷ refusal 15 (same a b) ∷ [])
 
   -- "the lowest level at which the two rows differ and compress alike", with both rows
   unfoldable pub collision : Option Collision
@@ -78,7 +78,7 @@ secondOf none old = old
 secondOf (some c) old = c .second
 
 unfoldable pub extractReply : ℕ → ParameterSet → Pair → List ℕ → List ℕ → Reply
-extractReply p s two first second = reply (extractRows p s two first second) (levelOf (collision p s two) ∷ [])
+extractReply p s two first second = reply (extractRefusals p s two first second) (levelOf (collision p s two) ∷ [])
 
 -- "writes both rows, t words each, to two lent buffers, the first leaf's row to the first"
 unfoldable pub extractedFirst : ℕ → ParameterSet → Pair → List ℕ → List ℕ → List ℕ

@@ -7,10 +7,10 @@ use Prim.Native.Nat.{ℕ, _<_}
 use lib.ListN.{length}
 use Rattle.modular.specs.Arithmetic.{allWords}
 use Rattle.modular.specs.Goldilocks.{p}
-use Rattle.refusals.specs.Table.{firstRow, done}
+use Rattle.refusals.specs.Table.{firstRefusal, done}
 use Rattle.parameters.specs.declared.ParameterSet.{ParameterSet}
 use Rattle.state_entries.specs.Permutation.{compressUnder}
-use Rattle.extraction_entries.specs.Extraction.{Pair, pairRows, bothAccepted, collision, levelOf, extractReply, extractedFirst, extractedSecond}
+use Rattle.extraction_entries.specs.Extraction.{Pair, pairRefusals, bothAccepted, collision, levelOf, extractReply, extractedFirst, extractedSecond}
 
 -- a row: t words
 abbrev pub IsRow : ParameterSet → List ℕ → Type 0
@@ -31,5 +31,5 @@ pub record Written (s : ParameterSet) (two : Pair) (first second : List ℕ) : T
 -- It does so wherever rows 1 to 12 are past and two different leaves are both accepted: where neither 14 nor 15 applies.
 abbrev pub Extracting : Type 0
 Extracting =
-    (s : ParameterSet) (two : Pair) (first second : List ℕ) → firstRow (pairRows p s two first second) ≡ 0
+    (s : ParameterSet) (two : Pair) (first second : List ℕ) → firstRefusal (pairRefusals p s two first second) ≡ 0
     → bothAccepted p s two ≡ true → two .firstLeaf ≢ two .secondLeaf → Collides s two first second × Written s two first second

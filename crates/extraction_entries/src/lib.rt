@@ -5,11 +5,11 @@ ghost use mathlib.Core.List.{[], _∷_, _++_};
 ghost use Prim.Native.Nat.{ℕ};
 ghost use Rattle.modular.specs.Arithmetic.{allWords};
 ghost use Rattle.modular.specs.Goldilocks.{p};
-ghost use Rattle.refusals.specs.Table.{row, firstRow};
+ghost use Rattle.refusals.specs.Table.{refusal, firstRefusal};
 ghost use Rattle.merkle.specs.Openings.{accepts};
 ghost use Rattle.trees.specs.SetTrees.{treeOf, openingWords};
-ghost use Rattle.tree_entries.specs.Trees.{has, verifyRows};
-ghost use Rattle.extraction_entries.specs.Extraction.{extractionReply, pair, pairFits, pairRows, extractRows, extractReply, extractedFirst, extractedSecond};
+ghost use Rattle.tree_entries.specs.Trees.{has, verifyRefusals};
+ghost use Rattle.extraction_entries.specs.Extraction.{extractionReply, pair, pairFits, pairRefusals, extractRefusals, extractReply, extractedFirst, extractedSecond};
 use parameters::ParameterSet;
 use tree_entries::Verdict;
 use trees::sets;
@@ -85,7 +85,7 @@ fn pair_is_words(
 }
 
 // The first of rows 1 to 12 that applies, or 0.
-fn row_of_pair(
+fn refusal_of_pair(
     set: ParameterSet,
     root: &[u64],
     place: u64,
@@ -96,11 +96,11 @@ fn row_of_pair(
     first_row: &[u64],
     second_row: &[u64],
 ) -> u8
-    ensures { λ r. ⌜ r ≡ firstRow (pairRows p set (pair (now (root .entry)) place (now (first .entry)) (now («first_siblings» .entry)) (now (second .entry)) (now («second_siblings» .entry))) (now («first_row» .entry)) (now («second_row» .entry))) ⌝ }
+    ensures { λ r. ⌜ r ≡ firstRefusal (pairRefusals p set (pair (now (root .entry)) place (now (first .entry)) (now («first_siblings» .entry)) (now (second .entry)) (now («second_siblings» .entry))) (now («first_row» .entry)) (now («second_row» .entry))) ⌝ }
 {
-    let row = state_entries::row_of(set);
-    if row != 0 {
-        return row;
+    let number = state_entries::refusal_of(set);
+    if number != 0 {
+        return number;
     }
     let beside = sets::opening_words(set);
     if !pair_fits(
@@ -126,9 +126,15 @@ fn row_of_pair(
 }
 
 // The row of an opening that rows 1 to 12 let through: 14 where its verdict is not that it is accepted, or 0.
-fn row_of_opening(set: ParameterSet, root: &[u64], place: u64, leaf: &[u64], siblings: &[u64]) -> u8
-    ensures { λ r. ⌜ (firstRow (verifyRows p set (now (root .entry)) place (now (leaf .entry)) (now (siblings .entry))) ≡ 0
-        → r ≡ firstRow (row 14 (not (accepts (treeOf p set) (set .height) (now (root .entry)) place (now (leaf .entry)) (now (siblings .entry)))) ∷ [])) ⌝ }
+fn refusal_of_opening(
+    set: ParameterSet,
+    root: &[u64],
+    place: u64,
+    leaf: &[u64],
+    siblings: &[u64],
+) -> u8
+    ensures { λ r. ⌜ (firstRefusal (verifyRefusals p set (now (root .entry)) place (now (leaf .entry)) (now (siblings .entry))) ≡ 0
+        → r ≡ firstRefusal (refusal 14 (not (accepts (treeOf p set) (set .height) (now (root .entry)) place (now (leaf .entry)) (now (siblings .entry)))) ∷ [])) ⌝ }
 {
     match tree_entries::verify(set, root, place, leaf, siblings) {
         Verdict::Accepted => 0,
@@ -138,7 +144,7 @@ fn row_of_opening(set: ParameterSet, root: &[u64], place: u64, leaf: &[u64], sib
 }
 
 // The first row that turns back a pair of openings, or 0.
-fn row_of_extract(
+fn refusal_of_extract(
     set: ParameterSet,
     root: &[u64],
     place: u64,
@@ -149,9 +155,9 @@ fn row_of_extract(
     first_row: &[u64],
     second_row: &[u64],
 ) -> u8
-    ensures { λ r. ⌜ r ≡ firstRow (extractRows p set (pair (now (root .entry)) place (now (first .entry)) (now («first_siblings» .entry)) (now (second .entry)) (now («second_siblings» .entry))) (now («first_row» .entry)) (now («second_row» .entry))) ⌝ }
+    ensures { λ r. ⌜ r ≡ firstRefusal (extractRefusals p set (pair (now (root .entry)) place (now (first .entry)) (now («first_siblings» .entry)) (now (second .entry)) (now («second_siblings» .entry))) (now («first_row» .entry)) (now («second_row» .entry))) ⌝ }
 {
-    let row = row_of_pair(
+    let number = refusal_of_pair(
         set,
         root,
         place,
@@ -162,18 +168,18 @@ fn row_of_extract(
         first_row,
         second_row,
     );
-    if row != 0 {
-        return row;
+    if number != 0 {
+        return number;
     }
-    let row = row_of_opening(set, root, place, first, first_siblings);
-    if row != 0 {
-        return row;
+    let number = refusal_of_opening(set, root, place, first, first_siblings);
+    if number != 0 {
+        return number;
     }
-    let row = row_of_opening(set, root, place, second, second_siblings);
-    if row != 0 {
-        return row;
+    let number = refusal_of_opening(set, root, place, second, second_siblings);
+    if number != 0 {
+        return number;
     }
-    if collisions::same_words(first, second) {
+    if paths::comparison::same_words(first, second) {
         return 15;
     }
     0
@@ -196,7 +202,7 @@ pub fn extract(
         × (now («first_row» .exit) ≡ extractedFirst p set (pair (now (root .entry)) place (now (first .entry)) (now («first_siblings» .entry)) (now (second .entry)) (now («second_siblings» .entry))) (now («first_row» .entry)) (now («second_row» .entry)))
         × (now («second_row» .exit) ≡ extractedSecond p set (pair (now (root .entry)) place (now (first .entry)) (now («first_siblings» .entry)) (now (second .entry)) (now («second_siblings» .entry))) (now («first_row» .entry)) (now («second_row» .entry))) ⌝ }
 {
-    let row = row_of_extract(
+    let number = refusal_of_extract(
         set,
         root,
         place,
@@ -207,14 +213,14 @@ pub fn extract(
         first_row,
         second_row,
     );
-    if row != 0 {
-        return Extraction::Refused(row);
+    if number != 0 {
+        return Extraction::Refused(number);
     }
     let d = sets::dimensions(set);
     let diagonal = set.diagonal;
     let constants = set.constants;
     let at = place as usize;
-    let level = collisions::lowest_level(
+    let level = paths::collisions::lowest_level(
         d,
         &diagonal,
         &constants,
@@ -224,7 +230,7 @@ pub fn extract(
         second,
         second_siblings,
     );
-    collisions::copy_row(
+    paths::collisions::copy_row(
         d,
         &diagonal,
         &constants,
@@ -234,7 +240,7 @@ pub fn extract(
         level,
         first_row,
     );
-    collisions::copy_row(
+    paths::collisions::copy_row(
         d,
         &diagonal,
         &constants,

@@ -3,7 +3,7 @@ use mathlib.Core.List.{List, [], _∷_}
 use Prim.Native.Nat.{ℕ, suc, _%_}
 use lib.Dec.{eqb}
 use Rattle.modular.specs.Arithmetic.{add, sub, mul, pow, inverse, seventhRoot}
-use Rattle.refusals.specs.Table.{Reply, refused, done, reply, row, notWords}
+use Rattle.refusals.specs.Table.{Reply, refused, done, reply, refusal, notWords}
 use Rattle.field_entries.specs.declared.Answer.{Answer}
 use Rattle.field_entries.specs.declared.Answer.the-variants.{Word, Refused}
 
@@ -27,7 +27,7 @@ powerReply p a e = reply (notWords p (a ∷ []) ∷ []) (pow p a e ∷ [])
 
 -- "13 | inverse of 0"
 unfoldable pub inverseReply : ℕ → ℕ → Reply
-inverseReply p x = reply (notWords p (x ∷ []) ∷ row 13 (eqb x 0) ∷ []) (inverse p x ∷ [])
+inverseReply p x = reply (notWords p (x ∷ []) ∷ refusal 13 (eqb x 0) ∷ []) (inverse p x ∷ [])
 
 unfoldable pub seventhRootReply : ℕ → ℕ → Reply
 seventhRootReply p y = reply (notWords p (y ∷ []) ∷ []) (seventhRoot p y ∷ [])

@@ -11,11 +11,11 @@ use borrow.Author.Tests.{eqb-true, ltb-true, not-false}
 use Rattle.modular.specs.Arithmetic.{allWords}
 use Rattle.modular.specs.Goldilocks.{p}
 use Rattle.modular.proofs.Words.{left-true, right-true, words-left, words-right}
-use Rattle.refusals.specs.Table.{notWords, firstRow}
+use Rattle.refusals.specs.Table.{notWords, firstRefusal}
 use Rattle.refusals.proofs.Table.{Numbered, none, next}
 use Rattle.refusals.proofs.LengthsPlacesAndWords as three
 use Rattle.parameters.specs.declared.ParameterSet.{ParameterSet}
-use Rattle.parameters.specs.ParameterSet.{setRows}
+use Rattle.parameters.specs.ParameterSet.{setRefusals}
 use Rattle.merkle.specs.Lists.{put}
 use Rattle.merkle.specs.Replacement.{changed}
 use Rattle.merkle.proofs.Lists.{length-put, words-put}
@@ -25,12 +25,12 @@ use Rattle.tree_entries.specs.Trees.{has}
 use Rattle.pushes.specs.declared.record.Record.{Record}
 use Rattle.pushes.specs.Records.{leafOf, changesOf, placesBelow, usedWords, SixWords}
 use Rattle.push_entries.specs.Pushes.{fewRecords}
-use Rattle.history.specs.LeafBook.{Call, replacement, push, enterAll, bookRows, bookCount, bookReply, entered, bookAfter}
+use Rattle.history.specs.LeafBook.{Call, replacement, push, enterAll, bookRefusals, bookCount, bookReply, entered, bookAfter}
 use Rattle.history.proofs.Replies.{after-holds}
 use Rattle.history.proofs.Sets.{Leaves, six}
 
-pub book-numbered : (s : ParameterSet) (c : Call) → Numbered (bookRows p s c)
-unfolding bookRows notWords
+pub book-numbered : (s : ParameterSet) (c : Call) → Numbered (bookRefusals p s c)
+unfolding bookRefusals notWords
 book-numbered s (replacement q leaf) = next (lit< tt) (next (lit< tt) (next (lit< tt) none))
 book-numbered s (push rs) = next (lit< tt) (next (lit< tt) (next (lit< tt) none))
 
@@ -40,8 +40,8 @@ pub record Good (s : ParameterSet) (q : ℕ) (leaf : List ℕ) : Type 0 where
   pub inside : q < leafCount p s
   pub wordy : allWords p leaf ≡ true
 
-pub good : (s : ParameterSet) (q : ℕ) (leaf : List ℕ) → firstRow (bookRows p s (replacement q leaf)) ≡ 0 → Good s q leaf
-unfolding bookRows
+pub good : (s : ParameterSet) (q : ℕ) (leaf : List ℕ) → firstRefusal (bookRefusals p s (replacement q leaf)) ≡ 0 → Good s q leaf
+unfolding bookRefusals
 good s q leaf z =
     let P = three.passed p [] none (not (has leaf (s .«node_size»))) (not (ltb q (leafCount p s))) leaf z in
     record {
@@ -56,13 +56,13 @@ pub record Fit (s : ParameterSet) (rs : List Record) : Type 0 where
   pub inside : placesBelow (leafCount p s) rs ≡ true
   pub wordy : allWords p (usedWords (s .«node_size») rs) ≡ true
 
-pub fit : (s : ParameterSet) (rs : List Record) → SixWords rs → firstRow (bookRows p s (push rs)) ≡ 0 → Fit s rs
-unfolding bookRows
+pub fit : (s : ParameterSet) (rs : List Record) → SixWords rs → firstRefusal (bookRefusals p s (push rs)) ≡ 0 → Fit s rs
+unfolding bookRefusals
 fit s rs sixes z =
     let P = three.passed p [] none (not (fewRecords rs)) (not (placesBelow (leafCount p s) rs)) (usedWords (s .«node_size») rs) z in
     record { sixes = sixes; inside = not-false (placesBelow (leafCount p s) rs) (P .place); wordy = P .words }
 
-module _ (s : ParameterSet) (valid : firstRow (setRows p s) ≡ 0) where
+module _ (s : ParameterSet) (valid : firstRefusal (setRefusals p s) ≡ 0) where
   -- a leaf of words that goes to its place
   pub put-leaves : (xs : List ℕ) → Leaves s xs → (q : ℕ) (leaf : List ℕ) → q < leafCount p s → length leaf ≡ s .«node_size» → allWords p leaf ≡ true
       → Leaves s (put xs (q * s .«node_size») leaf)
@@ -106,11 +106,11 @@ module _ (s : ParameterSet) (valid : firstRow (setRows p s) ≡ 0) where
   pub replacement-leaves : (xs : List ℕ) → Leaves s xs → (q : ℕ) (leaf : List ℕ) → Leaves s (bookAfter p s (replacement q leaf) xs)
   unfolding bookAfter bookReply entered
   replacement-leaves xs L q leaf =
-      after-holds (Leaves s) (bookRows p s (replacement q leaf)) (bookCount p s (replacement q leaf) ∷ []) xs (put xs (q * s .«node_size») leaf) (book-numbered s (replacement q leaf)) L
+      after-holds (Leaves s) (bookRefusals p s (replacement q leaf)) (bookCount p s (replacement q leaf) ∷ []) xs (put xs (q * s .«node_size») leaf) (book-numbered s (replacement q leaf)) L
       (λ z. let g = good s q leaf z in put-leaves xs L q leaf (g .inside) (g .long) (g .wordy))
 
   pub push-leaves : (xs : List ℕ) → Leaves s xs → (rs : List Record) → SixWords rs → Leaves s (bookAfter p s (push rs) xs)
   unfolding bookAfter bookReply entered
   push-leaves xs L rs sixes =
-      after-holds (Leaves s) (bookRows p s (push rs)) (bookCount p s (push rs) ∷ []) xs (enterAll s rs xs) (book-numbered s (push rs)) L
+      after-holds (Leaves s) (bookRefusals p s (push rs)) (bookCount p s (push rs) ∷ []) xs (enterAll s rs xs) (book-numbered s (push rs)) L
       (λ z. enter-leaves rs xs (fit s rs sixes z) L)

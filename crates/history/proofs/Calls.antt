@@ -8,23 +8,23 @@ use borrow.Author.Tests.{eq-eqb}
 use Rattle.modular.specs.Arithmetic.{allWords}
 use Rattle.modular.specs.Goldilocks.{p}
 use Rattle.modular.proofs.Words.{words-append}
-use Rattle.refusals.specs.Table.{TableRow, row, notWords, firstRow, Reply, reply, after}
+use Rattle.refusals.specs.Table.{Refusal, refusal, notWords, firstRefusal, Reply, reply, after}
 use Rattle.refusals.proofs.Table.{numbered-append}
 use Rattle.refusals.proofs.LengthsPlacesAndWords as three
 use Rattle.parameters.specs.declared.ParameterSet.{ParameterSet}
-use Rattle.parameters.specs.ParameterSet.{setRows}
+use Rattle.parameters.specs.ParameterSet.{setRefusals}
 use Rattle.parameters.proofs.Accepted.{set-numbered}
 use Rattle.merkle.specs.Openings.{opening}
 use Rattle.merkle.specs.Statements.{Replaced, Proper, Pushed}
 use Rattle.trees.specs.SetTrees.{treeOf, leafCount, storeWords}
 use Rattle.tree_entries.specs.Trees.{has, noPlace}
 use Rattle.trees.proofs.SetTrees.{laws}
-use Rattle.change_entries.specs.Replacement.{replaceRows, replaceReply, replaced}
+use Rattle.change_entries.specs.Replacement.{replaceRefusals, replaceReply, replaced}
 use Rattle.change_entries.specs.Replacement as entry
 use Rattle.pushes.specs.declared.record.Record.{Record}
 use Rattle.pushes.specs.Records.{changesOf, placesBelow, usedWords, SixWords}
-use Rattle.push_entries.specs.Pushes.{fewRecords, pushRows, pushing, pushReply, pushed}
-use Rattle.history.specs.LeafBook.{Call, replacement, push, bookRows, bookCount, bookReply, entered, bookAfter}
+use Rattle.push_entries.specs.Pushes.{fewRecords, pushRefusals, pushing, pushReply, pushed}
+use Rattle.history.specs.LeafBook.{Call, replacement, push, bookRefusals, bookCount, bookReply, entered, bookAfter}
 use Rattle.history.specs.History.{callReply, callStore}
 use Rattle.history.proofs.Replies.{same-reply, after-through}
 use Rattle.history.proofs.Sets.{storeOf, Leaves, words, store-long, store-words}
@@ -39,12 +39,12 @@ words-end xs ys e = go (allWords p xs) refl
     go false f = three.left-not-words p xs ys f ∙ sym f
 
 -- so with a store of words, of the right length, only a call's other arguments can be refused
-without-store : (front : List TableRow) (long rest : Bool) (place : TableRow) (xs ys : List ℕ) → long ≡ true → allWords p ys ≡ true
-    → front ++ (row 10 (not (long && rest)) ∷ place ∷ notWords p (xs ++ ys) ∷ []) ≡ front ++ (row 10 (not rest) ∷ place ∷ notWords p xs ∷ [])
+without-store : (front : List Refusal) (long rest : Bool) (place : Refusal) (xs ys : List ℕ) → long ≡ true → allWords p ys ≡ true
+    → front ++ (refusal 10 (not (long && rest)) ∷ place ∷ notWords p (xs ++ ys) ∷ []) ≡ front ++ (refusal 10 (not rest) ∷ place ∷ notWords p xs ∷ [])
 unfolding notWords
 without-store front long rest place xs ys e w =
     let f : (long && rest) ≡ rest = rw e in
-    ap₂ (λ (a b : Bool). front ++ (row 10 (not a) ∷ place ∷ row 12 (not b) ∷ [])) f (words-end xs ys w)
+    ap₂ (λ (a b : Bool). front ++ (refusal 10 (not a) ∷ place ∷ refusal 12 (not b) ∷ [])) f (words-end xs ys w)
 
 -- what a call and the book agree on
 pub record Follows (s : ParameterSet) (c : Call) (xs : List ℕ) : Type 0 where
@@ -52,23 +52,23 @@ pub record Follows (s : ParameterSet) (c : Call) (xs : List ℕ) : Type 0 where
   pub store : callStore p s c (storeOf s xs) ≡ storeOf s (bookAfter p s c xs)
   pub leaves : Leaves s (bookAfter p s c xs)
 
-module _ (s : ParameterSet) (valid : firstRow (setRows p s) ≡ 0) where
+module _ (s : ParameterSet) (valid : firstRefusal (setRefusals p s) ≡ 0) where
   -- an entry whose refusals are the set's and then the book's
   module _ (c : Call) (xs : List ℕ) (L : Leaves s xs) where
-    agreed : (rows : List TableRow) (made : ℕ) → rows ≡ setRows p s ++ bookRows p s c → (firstRow (bookRows p s c) ≡ 0 → made ≡ bookCount p s c)
+    agreed : (rows : List Refusal) (made : ℕ) → rows ≡ setRefusals p s ++ bookRefusals p s c → (firstRefusal (bookRefusals p s c) ≡ 0 → made ≡ bookCount p s c)
         → reply rows (made ∷ []) ≡ bookReply p s c
     unfolding bookReply
     agreed rows made e f =
-        ap (λ (r : List TableRow). reply r (made ∷ [])) e
-        ∙ same-reply (setRows p s) (bookRows p s c) (made ∷ []) (bookCount p s c ∷ []) (set-numbered p s) valid (book-numbered s c) (numbered-append (set-numbered p s) (book-numbered s c))
+        ap (λ (r : List Refusal). reply r (made ∷ [])) e
+        ∙ same-reply (setRefusals p s) (bookRefusals p s c) (made ∷ []) (bookCount p s c ∷ []) (set-numbered p s) valid (book-numbered s c) (numbered-append (set-numbered p s) (book-numbered s c))
         (λ z. ap (λ (n : ℕ). n ∷ []) (f z))
 
-    left : (r : Reply) (new : List ℕ) → r ≡ bookReply p s c → (firstRow (bookRows p s c) ≡ 0 → new ≡ storeOf s (entered p s c xs))
+    left : (r : Reply) (new : List ℕ) → r ≡ bookReply p s c → (firstRefusal (bookRefusals p s c) ≡ 0 → new ≡ storeOf s (entered p s c xs))
         → after r (storeOf s xs) new ≡ storeOf s (bookAfter p s c xs)
     unfolding bookAfter bookReply
     left r new e f =
         ap (λ (a : Reply). after a (storeOf s xs) new) e
-        ∙ after-through (storeOf s) (bookRows p s c) (bookCount p s c ∷ []) xs (entered p s c xs) new (book-numbered s c) f
+        ∙ after-through (storeOf s) (bookRefusals p s c) (bookCount p s c ∷ []) xs (entered p s c xs) new (book-numbered s c) f
 
   -- ---- one replacement
   module _ (xs : List ℕ) (L : Leaves s xs) (q : ℕ) (leaf : List ℕ) where
@@ -76,15 +76,15 @@ module _ (s : ParameterSet) (valid : firstRow (setRows p s) ≡ 0) where
     work g = laws s valid .replaced (s .height) q xs leaf (L .long) (g .inside) (g .long)
 
     pub replacement-follows : Follows s (replacement q leaf) xs
-    unfolding callReply callStore bookRows bookCount entered replaceRows replaceReply replaced
+    unfolding callReply callStore bookRefusals bookCount entered replaceRefusals replaceReply replaced
     replacement-follows =
         let c : Call = replacement q leaf in
         let S = treeOf p s in
-        let rows : replaceRows p s (storeOf s xs) q leaf ≡ setRows p s ++ bookRows p s c =
-        without-store (setRows p s) (has (storeOf s xs) (storeWords p s)) (has leaf (s .«node_size»)) (noPlace p s q) leaf (opening S (s .height) q (storeOf s xs))
+        let rows : replaceRefusals p s (storeOf s xs) q leaf ≡ setRefusals p s ++ bookRefusals p s c =
+        without-store (setRefusals p s) (has (storeOf s xs) (storeWords p s)) (has leaf (s .«node_size»)) (noPlace p s q) leaf (opening S (s .height) q (storeOf s xs))
         (eq-eqb (length (storeOf s xs)) (storeWords p s) (store-long s valid xs L))
         (words s valid .opened (s .height) q (storeOf s xs) (store-words s valid xs L)) in
-        let answer = agreed c xs L (replaceRows p s (storeOf s xs) q leaf) (entry.replacement p s (storeOf s xs) q leaf .made) rows (λ z. work (good s q leaf z) .counted) in
+        let answer = agreed c xs L (replaceRefusals p s (storeOf s xs) q leaf) (entry.replacement p s (storeOf s xs) q leaf .made) rows (λ z. work (good s q leaf z) .counted) in
         record {
           answers = answer;
           store = left c xs L (replaceReply p s (storeOf s xs) q leaf) (entry.replacement p s (storeOf s xs) q leaf .store) answer (λ z. work (good s q leaf z) .stored);
@@ -108,15 +108,15 @@ module _ (s : ParameterSet) (valid : firstRow (setRows p s) ≡ 0) where
     works F = laws s valid .pushed (s .height) (changesOf (s .«node_size») rs) xs (L .long) (proper rs F)
 
     pub push-follows : Follows s (push rs) xs
-    unfolding callReply callStore bookRows bookCount entered pushRows pushReply pushed
+    unfolding callReply callStore bookRefusals bookCount entered pushRefusals pushReply pushed
     push-follows =
         let c : Call = push rs in
         let S = treeOf p s in
-        let rows : pushRows p s (storeOf s xs) rs ≡ setRows p s ++ bookRows p s c =
-        without-store (setRows p s) (has (storeOf s xs) (storeWords p s)) (fewRecords rs) (row 11 (not (placesBelow (leafCount p s) rs))) (usedWords (s .«node_size») rs) (storeOf s xs)
+        let rows : pushRefusals p s (storeOf s xs) rs ≡ setRefusals p s ++ bookRefusals p s c =
+        without-store (setRefusals p s) (has (storeOf s xs) (storeWords p s)) (fewRecords rs) (refusal 11 (not (placesBelow (leafCount p s) rs))) (usedWords (s .«node_size») rs) (storeOf s xs)
         (eq-eqb (length (storeOf s xs)) (storeWords p s) (store-long s valid xs L))
         (store-words s valid xs L) in
-        let answer = agreed c xs L (pushRows p s (storeOf s xs) rs) (pushing p s (storeOf s xs) rs .made) rows
+        let answer = agreed c xs L (pushRefusals p s (storeOf s xs) rs) (pushing p s (storeOf s xs) rs .made) rows
         (λ z. works (fit s rs sixes z) .counted ∙ ap (λ (n : ℕ). s .height * n) (length-changes rs)) in
         record {
           answers = answer;

@@ -7,13 +7,13 @@ use Prim.Native.Nat.{ℕ}
 use lib.ListN.{length}
 use Rattle.modular.specs.Goldilocks.{p}
 use Rattle.modular.proofs.Words.{left-true, and-true}
-use Rattle.refusals.specs.Table.{firstRow, done}
+use Rattle.refusals.specs.Table.{firstRefusal, done}
 use Rattle.parameters.specs.declared.ParameterSet.{ParameterSet}
-use Rattle.parameters.specs.ParameterSet.{setRows}
+use Rattle.parameters.specs.ParameterSet.{setRefusals}
 use Rattle.merkle.specs.Openings.{accepts}
 use Rattle.trees.specs.SetTrees.{treeOf}
 use Rattle.tree_entries.specs.Trees.{verifyReply}
-use Rattle.extraction_entries.specs.Extraction.{Pair, pair, bothAccepted, extractRows, collision, levelOf, extractReply}
+use Rattle.extraction_entries.specs.Extraction.{Pair, pair, bothAccepted, extractRefusals, collision, levelOf, extractReply}
 use Rattle.extraction_entries.specs.Statements.{Collides}
 use Rattle.extraction_entries.proofs.AcceptedPairs.{Paired, pair-passes}
 use Rattle.extraction_entries.proofs.Extracted.{paired, both}
@@ -21,7 +21,7 @@ use Rattle.extraction_entries.proofs.Statements.{extracting}
 use Rattle.history.proofs.Replies.{reply-none}
 use Rattle.history.proofs.Openings.{Offered, offered, verdict}
 
-module _ (s : ParameterSet) (valid : firstRow (setRows p s) ≡ 0) (top : List ℕ) (q : ℕ) (a x b y first second : List ℕ) where
+module _ (s : ParameterSet) (valid : firstRefusal (setRefusals p s) ≡ 0) (top : List ℕ) (q : ℕ) (a x b y first second : List ℕ) where
   abbrev two : Pair
   two = pair top q a x b y
 
@@ -35,7 +35,7 @@ module _ (s : ParameterSet) (valid : firstRow (setRows p s) ≡ 0) (top : List �
   answered-offered : (result : List ℕ) → extractReply p s two first second ≡ done result → Offered s top q a x
   unfolding extractReply bothAccepted
   answered-offered result e =
-      let z = reply-none (extractRows p s two first second) (levelOf (collision p s two) ∷ []) result e in
+      let z = reply-none (extractRefusals p s two first second) (levelOf (collision p s two) ∷ []) result e in
       let P = paired s two first second z in
       record {
         top-long = P .root-long;

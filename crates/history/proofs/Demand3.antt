@@ -3,10 +3,10 @@ use mathlib.Core.Path.{_≡_, refl, sym, ap, subst, _∙_}
 use mathlib.Core.List.{List, [], _∷_}
 use Prim.Native.Nat.{ℕ}
 use Rattle.modular.specs.Goldilocks.{p}
-use Rattle.refusals.specs.Table.{firstRow, Reply}
+use Rattle.refusals.specs.Table.{firstRefusal, Reply}
 use Rattle.refusals.proofs.Table.{written-after}
 use Rattle.parameters.specs.declared.ParameterSet.{ParameterSet}
-use Rattle.parameters.specs.ParameterSet.{setRows}
+use Rattle.parameters.specs.ParameterSet.{setRefusals}
 use Rattle.tree_entries.specs.Trees.{built, opened}
 use Rattle.history.specs.LeafBook.{Call, replacement, push, leafAt, bookReply, bookAfter, bookLeaves, bookAnswers}
 use Rattle.history.specs.History.{Ran, callReply, run}
@@ -16,7 +16,7 @@ use Rattle.history.proofs.Calls.{Follows, replacement-follows, push-fol
 use Rattle.history.proofs.Openings.{verdict, opens, own-taken}
 use Rattle.history.proofs.Collisions.{collides-iff}
 
-module _ (s : ParameterSet) (valid : firstRow (setRows p s) ≡ 0) where
+module _ (s : ParameterSet) (valid : firstRefusal (setRefusals p s) ≡ 0) where
   -- a list of calls, from the store built from the book's leaves
   pub record Whole (calls : List Call) (xs : List ℕ) : Type 0 where
     pub store : run p s calls (storeOf s xs) .store ≡ storeOf s (bookLeaves p s calls xs)

@@ -10,10 +10,10 @@ use lib.ListN.{length}
 use borrow.Author.Tests.{eqb-true, eqb-false}
 use Rattle.modular.specs.Goldilocks.{p}
 use Rattle.modular.proofs.Words.{words-left}
-use Rattle.refusals.specs.Table.{firstRow, refused, done, Reply, after}
+use Rattle.refusals.specs.Table.{firstRefusal, refused, done, Reply, after}
 use Rattle.refusals.proofs.Table.{reply-refused, reply-done}
 use Rattle.parameters.specs.declared.ParameterSet.{ParameterSet}
-use Rattle.parameters.specs.ParameterSet.{setRows}
+use Rattle.parameters.specs.ParameterSet.{setRefusals}
 use Rattle.merkle.specs.Lists.{part, put}
 use Rattle.merkle.specs.Replacement.{Change}
 use Rattle.merkle.proofs.Lists.{part-put, part-put-before, part-put-behind}
@@ -21,7 +21,7 @@ use Rattle.merkle.proofs.Levels.{fits}
 use Rattle.trees.specs.SetTrees.{leafCount}
 use Rattle.pushes.specs.declared.record.Record.{Record}
 use Rattle.pushes.specs.Records.{leafOf, changesOf, usedWords, SixWords}
-use Rattle.history.specs.LeafBook.{Call, replacement, push, leafAt, enterAll, bookRows, bookCount, bookReply, entered, bookAfter, bookLeaves}
+use Rattle.history.specs.LeafBook.{Call, replacement, push, leafAt, enterAll, bookRefusals, bookCount, bookReply, entered, bookAfter, bookLeaves}
 use Rattle.history.specs.Demand3.{Typed}
 use Rattle.history.specs.Latest.{brought, ifAccepted, accepted, lastFor, Latest}
 use Rattle.history.proofs.Sets.{Leaves, begun}
@@ -33,7 +33,7 @@ unfolding lastFor
 last-append q given [] ys = refl
 last-append q given (c ∷ xs) ys = last-append q (cond (eqb (c .place) q) (c .leaf) given) xs ys
 
-module _ (s : ParameterSet) (valid : firstRow (setRows p s) ≡ 0) (q : ℕ) (inside : q < leafCount p s) where
+module _ (s : ParameterSet) (valid : firstRefusal (setRefusals p s) ≡ 0) (q : ℕ) (inside : q < leafCount p s) where
   -- the leaf at q where another, or this one, is put to its place
   leaf-put : (xs : List ℕ) → Leaves s xs → (i : ℕ) (leaf : List ℕ) → i < leafCount p s → length leaf ≡ s .«node_size»
       → leafAt s q (put xs (i * s .«node_size») leaf) ≡ cond (eqb i q) leaf (leafAt s q xs)
@@ -76,16 +76,16 @@ module _ (s : ParameterSet) (valid : firstRow (setRows p s) ≡ 0) (q : ℕ) (in
   by-reply c xs r e h = rw e h
 
   call-last : (c : Call) (xs : List ℕ)
-      → (firstRow (bookRows p s c) ≡ 0 → leafAt s q (entered p s c xs) ≡ lastFor q (leafAt s q xs) (brought s c))
+      → (firstRefusal (bookRefusals p s c) ≡ 0 → leafAt s q (entered p s c xs) ≡ lastFor q (leafAt s q xs) (brought s c))
       → leafAt s q (bookAfter p s c xs) ≡ lastFor q (leafAt s q xs) (ifAccepted (bookReply p s c) (brought s c))
   unfolding bookReply after ifAccepted lastFor
-  call-last c xs f = go (firstRow (bookRows p s c)) refl
+  call-last c xs f = go (firstRefusal (bookRefusals p s c)) refl
     where
-      go : (n : ℕ) → firstRow (bookRows p s c) ≡ n
+      go : (n : ℕ) → firstRefusal (bookRefusals p s c) ≡ n
           → leafAt s q (bookAfter p s c xs) ≡ lastFor q (leafAt s q xs) (ifAccepted (bookReply p s c) (brought s c))
-      go zero z = by-reply c xs (done (bookCount p s c ∷ [])) (reply-done (bookRows p s c) (bookCount p s c ∷ []) (book-numbered s c) z) (f z)
+      go zero z = by-reply c xs (done (bookCount p s c ∷ [])) (reply-done (bookRefusals p s c) (bookCount p s c ∷ []) (book-numbered s c) z) (f z)
       go (suc n) z =
-          by-reply c xs (refused (firstRow (bookRows p s c))) (reply-refused (bookRows p s c) (bookCount p s c ∷ []) (λ w. absurd (omega arith))) refl
+          by-reply c xs (refused (firstRefusal (bookRefusals p s c))) (reply-refused (bookRefusals p s c) (bookCount p s c ∷ []) (λ w. absurd (omega arith))) refl
 
   replacement-last : (xs : List ℕ) → Leaves s xs → (i : ℕ) (leaf : List ℕ)
       → leafAt s q (bookAfter p s (replacement i leaf) xs) ≡ lastFor q (leafAt s q xs) (ifAccepted (bookReply p s (replacement i leaf)) (brought s (replacement i leaf)))
@@ -119,7 +119,7 @@ module _ (s : ParameterSet) (valid : firstRow (setRows p s) ≡ 0) (q : ℕ) (in
       (each cs (bookAfter p s (push rs) xs) (T .1) (push-leaves s valid xs L rs (T .0)))
 
 -- k^h leaves of words, after any list of calls
-pub book-leaves : (s : ParameterSet) → firstRow (setRows p s) ≡ 0 → (calls : List Call) (xs : List ℕ) → Typed calls → Leaves s xs → Leaves s (bookLeaves p s calls xs)
+pub book-leaves : (s : ParameterSet) → firstRefusal (setRefusals p s) ≡ 0 → (calls : List Call) (xs : List ℕ) → Typed calls → Leaves s xs → Leaves s (bookLeaves p s calls xs)
 unfolding bookLeaves
 book-leaves s valid [] xs T L = L
 book-leaves s valid (replacement q leaf ∷ cs) xs T L =

@@ -10,16 +10,16 @@ use borrow.Author.Tests.{ltb-true, lt-ltb, eq-eqb, not-false}
 use Rattle.modular.specs.Arithmetic.{allWords}
 use Rattle.modular.specs.Goldilocks.{p}
 use Rattle.modular.proofs.Words.{and-true, words-left, words-right, words-drop}
-use Rattle.refusals.specs.Table.{firstRow, done}
+use Rattle.refusals.specs.Table.{firstRefusal, done}
 use Rattle.refusals.proofs.Table.{reply-done, written-after}
 use Rattle.refusals.proofs.LengthsPlacesAndWords as three
 use Rattle.parameters.specs.declared.ParameterSet.{ParameterSet}
-use Rattle.parameters.specs.ParameterSet.{setRows}
+use Rattle.parameters.specs.ParameterSet.{setRefusals}
 use Rattle.parameters.proofs.Accepted.{set-numbered}
 use Rattle.merkle.specs.Levels.{root}
 use Rattle.merkle.specs.Openings.{opening, accepts}
 use Rattle.trees.specs.SetTrees.{treeOf, leafCount, storeWords, openingWords}
-use Rattle.tree_entries.specs.Trees.{has, openRows, openReply, opened, verifyRows, verifyReply}
+use Rattle.tree_entries.specs.Trees.{has, openRefusals, openReply, opened, verifyRefusals, verifyReply}
 use Rattle.trees.proofs.SetTrees.{laws, root-long}
 use Rattle.tree_entries.proofs.AcceptedTrees.{open-numbered, verify-numbered, verify-passed}
 use Rattle.extraction_entries.proofs.AcceptedPairs.{Opening, verify-passes}
@@ -42,14 +42,14 @@ module _ (s : ParameterSet) (top : List ℕ) (q : ℕ) (leaf siblings : List ℕ
   one-true false e = absurd (omega arith)
 
   pub offered : verifyReply p s top q leaf siblings ≡ done (1 ∷ []) → Offered s top q leaf siblings
-  unfolding verifyReply verifyRows
+  unfolding verifyReply verifyRefusals
   offered e =
       let yes : Bool = accepts (treeOf p s) (s .height) top q leaf siblings in
-      let z = reply-none (verifyRows p s top q leaf siblings) (cond yes 1 0 ∷ []) (1 ∷ []) e in
+      let z = reply-none (verifyRefusals p s top q leaf siblings) (cond yes 1 0 ∷ []) (1 ∷ []) e in
       let D = verify-passed s top q leaf siblings z in
-      let P = three.passed p (setRows p s) (set-numbered p s) (not (has top (s .«node_size») && has leaf (s .«node_size») && has siblings (openingWords p s))) (not (ltb q (leafCount p s))) (top ++ (leaf ++ siblings)) z in
+      let P = three.passed p (setRefusals p s) (set-numbered p s) (not (has top (s .«node_size») && has leaf (s .«node_size») && has siblings (openingWords p s))) (not (ltb q (leafCount p s))) (top ++ (leaf ++ siblings)) z in
       let rest = words-right p top (leaf ++ siblings) (P .words) in
-      let one : _≡_ {A = ℕ} (cond yes 1 0) 1 = ap (λ (xs : List ℕ). getD xs 0 0) (reply-result (verifyRows p s top q leaf siblings) (cond yes 1 0 ∷ []) (1 ∷ []) (verify-numbered s top q leaf siblings) e) in
+      let one : _≡_ {A = ℕ} (cond yes 1 0) 1 = ap (λ (xs : List ℕ). getD xs 0 0) (reply-result (verifyRefusals p s top q leaf siblings) (cond yes 1 0 ∷ []) (1 ∷ []) (verify-numbered s top q leaf siblings) e) in
       record {
         top-long = D .root-long;
         top-words = words-left p top (leaf ++ siblings) (P .words);
@@ -63,16 +63,16 @@ module _ (s : ParameterSet) (top : List ℕ) (q : ℕ) (leaf siblings : List ℕ
         ends = one-true yes one;
       }
 
-  pub verdict : firstRow (setRows p s) ≡ 0 → Offered s top q leaf siblings → verifyReply p s top q leaf siblings ≡ done (1 ∷ [])
+  pub verdict : firstRefusal (setRefusals p s) ≡ 0 → Offered s top q leaf siblings → verifyReply p s top q leaf siblings ≡ done (1 ∷ [])
   unfolding verifyReply
   verdict valid O =
       let yes : Bool = accepts (treeOf p s) (s .height) top q leaf siblings in
-      reply-done (verifyRows p s top q leaf siblings) (cond yes 1 0 ∷ []) (verify-numbered s top q leaf siblings)
+      reply-done (verifyRefusals p s top q leaf siblings) (cond yes 1 0 ∷ []) (verify-numbered s top q leaf siblings)
       (verify-passes s top q leaf siblings valid (O .top-long) (O .top-words) (O .inside) (O .opening))
       ∙ ap (λ (b : Bool). done (cond b 1 0 ∷ [])) (O .ends)
 
 -- a place's own leaf and opening, of the store built from the leaves
-module _ (s : ParameterSet) (valid : firstRow (setRows p s) ≡ 0) (xs : List ℕ) (L : Leaves s xs) (q : ℕ) (inside : q < leafCount p s) where
+module _ (s : ParameterSet) (valid : firstRefusal (setRefusals p s) ≡ 0) (xs : List ℕ) (L : Leaves s xs) (q : ℕ) (inside : q < leafCount p s) where
   opening-long : length (opening (treeOf p s) (s .height) q (storeOf s xs)) ≡ openingWords p s
   opening-long = laws s valid .opened (s .height) q (storeOf s xs) (store-long s valid xs L) inside .long
 
@@ -100,15 +100,15 @@ module _ (s : ParameterSet) (valid : firstRow (setRows p s) ≡ 0) (xs : List �
 
   module _ (buffer : List ℕ) (e : length buffer ≡ openingWords p s) where
     pub opens : openReply p s (storeOf s xs) q buffer ≡ done []
-    unfolding openReply openRows
+    unfolding openReply openRefusals
     opens =
         let store = storeOf s xs in
-        let z : firstRow (openRows p s store q buffer) ≡ 0 =
-        three.at-words p (setRows p s) (set-numbered p s) (not (has store (storeWords p s) && has buffer (openingWords p s))) (not (ltb q (leafCount p s))) (opening (treeOf p s) (s .height) q store) valid
+        let z : firstRefusal (openRefusals p s store q buffer) ≡ 0 =
+        three.at-words p (setRefusals p s) (set-numbered p s) (not (has store (storeWords p s) && has buffer (openingWords p s))) (not (ltb q (leafCount p s))) (opening (treeOf p s) (s .height) q store) valid
         (ap not (and-true (has store (storeWords p s)) (has buffer (openingWords p s)) (eq-eqb (length store) (storeWords p s) (store-long s valid xs L)) (eq-eqb (length buffer) (openingWords p s) e)))
         (ap not (lt-ltb q (leafCount p s) inside))
         ∙ three.no-twelve p (opening (treeOf p s) (s .height) q store) opening-words in
-        reply-done (openRows p s store q buffer) [] (open-numbered s store q buffer) z
+        reply-done (openRefusals p s store q buffer) [] (open-numbered s store q buffer) z
 
     pub own-opened : opened p s (storeOf s xs) q buffer ≡ opening (treeOf p s) (s .height) q (storeOf s xs)
     unfolding opened

@@ -3,7 +3,7 @@ use mathlib.Core.Path.{_≡_, refl, sym, ap, subst, _∙_}
 use mathlib.Core.List.{List, [], _++_}
 use Prim.Native.Nat.{ℕ, zero, suc}
 use native.Mathlib.Omega.{arith}
-use Rattle.refusals.specs.Table.{TableRow, firstRow, Reply, refused, done, reply, after}
+use Rattle.refusals.specs.Table.{Refusal, firstRefusal, Reply, refused, done, reply, after}
 use Rattle.refusals.proofs.Table.{Numbered, reply-refused, reply-done, first-back, kept-after, written-after}
 
 abbrev isDone : Reply → Type 0
@@ -14,27 +14,27 @@ abbrev resultOf : Reply → List ℕ
 resultOf (refused n) = []
 resultOf (done result) = result
 
-pub no-row : firstRow [] ≡ 0
-unfolding firstRow
+pub no-row : firstRefusal [] ≡ 0
+unfolding firstRefusal
 no-row = refl
 
 -- a reply that is a result: nothing was refused
-pub reply-none : (rows : List TableRow) (result xs : List ℕ) → reply rows result ≡ done xs → firstRow rows ≡ 0
-reply-none rows result xs e = go (firstRow rows) refl
+pub reply-none : (rows : List Refusal) (result xs : List ℕ) → reply rows result ≡ done xs → firstRefusal rows ≡ 0
+reply-none rows result xs e = go (firstRefusal rows) refl
   where
-    go : (n : ℕ) → firstRow rows ≡ n → firstRow rows ≡ 0
+    go : (n : ℕ) → firstRefusal rows ≡ n → firstRefusal rows ≡ 0
     go zero f = f
     go (suc n) f = absurd (subst isDone (sym e ∙ reply-refused rows result (λ z. absurd (omega arith))) tt)
 
-pub reply-result : (rows : List TableRow) (result xs : List ℕ) → Numbered rows → reply rows result ≡ done xs → result ≡ xs
+pub reply-result : (rows : List Refusal) (result xs : List ℕ) → Numbered rows → reply rows result ≡ done xs → result ≡ xs
 reply-result rows result xs N e = ap resultOf (sym (reply-done rows result N (reply-none rows result xs e)) ∙ e)
 
 -- refusals in front that do not apply, and results that are the same where none applies
-pub same-reply : (front rows : List TableRow) (a b : List ℕ) → Numbered front → firstRow front ≡ 0 → Numbered rows → Numbered (front ++ rows)
-    → (firstRow rows ≡ 0 → a ≡ b) → reply (front ++ rows) a ≡ reply rows b
-same-reply front rows a b N e M O f = go (firstRow rows) refl
+pub same-reply : (front rows : List Refusal) (a b : List ℕ) → Numbered front → firstRefusal front ≡ 0 → Numbered rows → Numbered (front ++ rows)
+    → (firstRefusal rows ≡ 0 → a ≡ b) → reply (front ++ rows) a ≡ reply rows b
+same-reply front rows a b N e M O f = go (firstRefusal rows) refl
   where
-    go : (n : ℕ) → firstRow rows ≡ n → reply (front ++ rows) a ≡ reply rows b
+    go : (n : ℕ) → firstRefusal rows ≡ n → reply (front ++ rows) a ≡ reply rows b
     go zero z = reply-done (front ++ rows) a O (first-back front rows N e ∙ z) ∙ ap done (f z) ∙ sym (reply-done rows b M z)
     go (suc n) z =
         reply-refused (front ++ rows) a (λ w. absurd (omega (arith, first-back front rows N e)))
@@ -42,20 +42,20 @@ same-reply front rows a b N e M O f = go (firstRow rows) refl
         ∙ sym (reply-refused rows b (λ w. absurd (omega arith)))
 
 -- what holds of what was and, where nothing is refused, of what is new, holds after the reply
-pub after-holds : (P : List ℕ → Type 0) (rows : List TableRow) (result old new : List ℕ) → Numbered rows
-    → P old → (firstRow rows ≡ 0 → P new) → P (after (reply rows result) old new)
-after-holds P rows result old new N o f = go (firstRow rows) refl
+pub after-holds : (P : List ℕ → Type 0) (rows : List Refusal) (result old new : List ℕ) → Numbered rows
+    → P old → (firstRefusal rows ≡ 0 → P new) → P (after (reply rows result) old new)
+after-holds P rows result old new N o f = go (firstRefusal rows) refl
   where
-    go : (n : ℕ) → firstRow rows ≡ n → P (after (reply rows result) old new)
+    go : (n : ℕ) → firstRefusal rows ≡ n → P (after (reply rows result) old new)
     go zero z = subst P (written-after old new (reply-done rows result N z)) (f z)
     go (suc n) z = subst P (kept-after old new (reply-refused rows result (λ w. absurd (omega arith)))) o
 
 -- what f makes of the old and of the new is what is left
-pub after-through : (f : List ℕ → List ℕ) (rows : List TableRow) (result old new made : List ℕ) → Numbered rows
-    → (firstRow rows ≡ 0 → made ≡ f new) → after (reply rows result) (f old) made ≡ f (after (reply rows result) old new)
-after-through f rows result old new made N g = go (firstRow rows) refl
+pub after-through : (f : List ℕ → List ℕ) (rows : List Refusal) (result old new made : List ℕ) → Numbered rows
+    → (firstRefusal rows ≡ 0 → made ≡ f new) → after (reply rows result) (f old) made ≡ f (after (reply rows result) old new)
+after-through f rows result old new made N g = go (firstRefusal rows) refl
   where
-    go : (n : ℕ) → firstRow rows ≡ n → after (reply rows result) (f old) made ≡ f (after (reply rows result) old new)
+    go : (n : ℕ) → firstRefusal rows ≡ n → after (reply rows result) (f old) made ≡ f (after (reply rows result) old new)
     go zero z =
         sym (written-after (f old) made (reply-done rows result N z)) ∙ g z ∙ ap f (written-after old new (reply-done rows result N z))
     go (suc n) z =

@@ -9,11 +9,11 @@ use borrow.Author.Tests.{eq-eqb}
 use Rattle.modular.specs.Arithmetic.{allWords}
 use Rattle.modular.specs.Goldilocks.{p}
 use Rattle.modular.proofs.Words.{and-true}
-use Rattle.refusals.specs.Table.{firstRow, done}
+use Rattle.refusals.specs.Table.{firstRefusal, done}
 use Rattle.refusals.proofs.Table.{reply-done, written-after}
 use Rattle.refusals.proofs.LengthsAndWords as two
 use Rattle.parameters.specs.declared.ParameterSet.{ParameterSet}
-use Rattle.parameters.specs.ParameterSet.{setRows}
+use Rattle.parameters.specs.ParameterSet.{setRefusals}
 use Rattle.parameters.proofs.Accepted.{set-numbered}
 use Rattle.merkle.specs.Levels.{KeepsWords, build}
 use Rattle.merkle.specs.Statements.{WordLaws}
@@ -22,13 +22,13 @@ use Rattle.merkle.proofs.Levels.{fits}
 use Rattle.merkle.proofs.Statements.{word-laws}
 use Rattle.trees.proofs.Shapes.{keeps-words, node-small}
 use Rattle.trees.specs.SetTrees.{treeOf, leafCount, leafWords, storeWords}
-use Rattle.tree_entries.specs.Trees.{has, buildRows, buildReply, built}
+use Rattle.tree_entries.specs.Trees.{has, buildRefusals, buildReply, built}
 use Rattle.trees.proofs.SetTrees.{valid-numbers, shape-regular, laws}
 use Rattle.tree_entries.proofs.AcceptedTrees.{build-numbered, build-passed}
 use Rattle.history.specs.LeafBook.{leafAt}
 use Rattle.history.proofs.Replies.{reply-none}
 
-module _ (s : ParameterSet) (valid : firstRow (setRows p s) ≡ 0) where
+module _ (s : ParameterSet) (valid : firstRefusal (setRefusals p s) ≡ 0) where
   -- a leaf has room in a record (Rules 5.3)
   pub six : s .«node_size» ≤ 6
   six = node-small (valid-numbers s valid)
@@ -50,23 +50,23 @@ pub record Leaves (s : ParameterSet) (xs : List ℕ) : Type 0 where
 
 -- the store that building wrote, where it was not refused
 pub record Begun (s : ParameterSet) (leaves store : List ℕ) : Type 0 where
-  pub set : firstRow (setRows p s) ≡ 0
+  pub set : firstRefusal (setRefusals p s) ≡ 0
   pub given : Leaves s leaves
   pub written : built p s leaves store ≡ storeOf s leaves
 
 pub begun : (s : ParameterSet) (leaves store : List ℕ) → buildReply p s leaves store ≡ done [] → Begun s leaves store
-unfolding buildReply buildRows built
+unfolding buildReply buildRefusals built
 begun s leaves store e =
-    let z = reply-none (buildRows p s leaves store) [] [] e in
+    let z = reply-none (buildRefusals p s leaves store) [] [] e in
     let B = build-passed s leaves store z in
-    let P = two.passed p (setRows p s) (set-numbered p s) (not (has leaves (leafWords p s) && has store (storeWords p s))) leaves z in
+    let P = two.passed p (setRefusals p s) (set-numbered p s) (not (has leaves (leafWords p s) && has store (storeWords p s))) leaves z in
     record {
       set = B .set;
       given = record { long = B .leaves-long; wordy = P .words };
       written = sym (written-after store (storeOf s leaves) e);
     }
 
-module _ (s : ParameterSet) (valid : firstRow (setRows p s) ≡ 0) (xs : List ℕ) (L : Leaves s xs) where
+module _ (s : ParameterSet) (valid : firstRefusal (setRefusals p s) ≡ 0) (xs : List ℕ) (L : Leaves s xs) where
   pub store-long : length (storeOf s xs) ≡ storeWords p s
   store-long = laws s valid .building (s .height) xs (L .long) .isStore .whole
 
@@ -75,10 +75,10 @@ module _ (s : ParameterSet) (valid : firstRow (setRows p s) ≡ 0) (xs : List �
 
   -- building writes it into any store of the exact length
   pub builds : (lent : List ℕ) → length lent ≡ storeWords p s → buildReply p s xs lent ≡ done []
-  unfolding buildReply buildRows
+  unfolding buildReply buildRefusals
   builds lent e =
-      reply-done (buildRows p s xs lent) [] (build-numbered s xs lent)
-      (two.at-none p (setRows p s) (set-numbered p s) (not (has xs (leafWords p s) && has lent (storeWords p s))) xs valid
+      reply-done (buildRefusals p s xs lent) [] (build-numbered s xs lent)
+      (two.at-none p (setRefusals p s) (set-numbered p s) (not (has xs (leafWords p s) && has lent (storeWords p s))) xs valid
       (ap not (and-true (has xs (leafWords p s)) (has lent (storeWords p s)) (eq-eqb (length xs) (leafWords p s) (L .long)) (eq-eqb (length lent) (storeWords p s) e)))
       (L .wordy))
 

@@ -7,7 +7,7 @@ use lib.Dec.{ltb}
 use lib.ListN.{length, replicate, length-replicate}
 use borrow.Author.Tests.{eq-eqb, le-leb, lt-ltb}
 use Rattle.modular.specs.Goldilocks.{p}
-use Rattle.refusals.specs.Table.{firstRow, Reply, done}
+use Rattle.refusals.specs.Table.{firstRefusal, Reply, done}
 use Rattle.refusals.proofs.Table.{none, reply-done}
 use Rattle.refusals.proofs.LengthsPlacesAndWords as three
 use Rattle.parameters.specs.declared.ParameterSet.{ParameterSet}
@@ -16,10 +16,10 @@ use Rattle.tree_entries.specs.Trees.{has, built, opened, verifyReply}
 use Rattle.trees.proofs.SetTrees.{laws}
 use Rattle.pushes.specs.Records.{placesBelow, usedWords}
 use Rattle.push_entries.specs.Pushes.{fewRecords}
-use Rattle.extraction_entries.specs.Extraction.{Pair, extractRows, collision, levelOf, extractReply, extractedFirst, extractedSecond}
+use Rattle.extraction_entries.specs.Extraction.{Pair, extractRefusals, collision, levelOf, extractReply, extractedFirst, extractedSecond}
 use Rattle.extraction_entries.specs.Statements.{IsRow}
 use Rattle.extraction_entries.proofs.Statements.{written}
-use Rattle.history.specs.LeafBook.{Call, replacement, push, leafAt, bookRows, bookCount, bookReply, bookLeaves, bookAnswers}
+use Rattle.history.specs.LeafBook.{Call, replacement, push, leafAt, bookRefusals, bookCount, bookReply, bookLeaves, bookAnswers}
 use Rattle.history.specs.History.{run}
 use Rattle.history.specs.Demand3.{rootOf}
 use Rattle.history.specs.Uses.{RootOfBook, Counts, OwnAccepted, OtherCollides, OnlyAccepted, Uses}
@@ -42,17 +42,17 @@ root-of-book s leaves lent e calls T =
     ap (rootOf s) (written .1 ∙ B .written) ∙ sym (laws s (B .set) .storeless .agrees (s .height) (bookLeaves p s calls leaves) (B .given .long))
 
 -- what the book answers where it refuses nothing
-counted : (s : ParameterSet) (c : Call) → firstRow (bookRows p s c) ≡ 0 → bookReply p s c ≡ done (bookCount p s c ∷ [])
+counted : (s : ParameterSet) (c : Call) → firstRefusal (bookRefusals p s c) ≡ 0 → bookReply p s c ≡ done (bookCount p s c ∷ [])
 unfolding bookReply
-counted s c z = reply-done (bookRows p s c) (bookCount p s c ∷ []) (book-numbered s c) z
+counted s c z = reply-done (bookRefusals p s c) (bookCount p s c ∷ []) (book-numbered s c) z
 
 counts : Counts
-unfolding bookAnswers bookRows bookCount
+unfolding bookAnswers bookRefusals bookCount
 counts s leaves lent e rs sixes few places used q leaf long inside wordy =
-    let a : firstRow (bookRows p s (push rs)) ≡ 0 =
+    let a : firstRefusal (bookRefusals p s (push rs)) ≡ 0 =
     three.at-words p [] none (not (fewRecords rs)) (not (placesBelow (leafCount p s) rs)) (usedWords (s .«node_size») rs) no-row (ap not (le-leb (length rs) (2 ^ 32) few)) (ap not places)
     ∙ three.no-twelve p (usedWords (s .«node_size») rs) used in
-    let b : firstRow (bookRows p s (replacement q leaf)) ≡ 0 =
+    let b : firstRefusal (bookRefusals p s (replacement q leaf)) ≡ 0 =
     three.at-words p [] none (not (has leaf (s .«node_size»))) (not (ltb q (leafCount p s))) leaf no-row (ap not (eq-eqb (length leaf) (s .«node_size») long)) (ap not (lt-ltb q (leafCount p s) inside))
     ∙ three.no-twelve p leaf wordy in
     demand3 s leaves lent e (push rs ∷ replacement q leaf ∷ []) (sixes, tt) .answered
@@ -68,7 +68,7 @@ rows-of : (s : ParameterSet) (two : Pair) (first second : List ℕ) {result : Li
     → IsRow s (extractedFirst p s two first second) × IsRow s (extractedSecond p s two first second)
 unfolding extractReply
 rows-of s two first second e =
-    written s two first second (reply-none (extractRows p s two first second) (levelOf (collision p s two) ∷ []) _ e) .rows
+    written s two first second (reply-none (extractRefusals p s two first second) (levelOf (collision p s two) ∷ []) _ e) .rows
 
 other-collides : OtherCollides
 other-collides s leaves lent e calls T q inside leaf siblings n v =

@@ -4,7 +4,7 @@ use mathlib.Core.List.{List, [], _∷_}
 use Prim.Native.Nat.{ℕ, _*_}
 use lib.Dec.{ltb}
 use lib.ListN.{length}
-use Rattle.refusals.specs.Table.{TableRow, row, notWords, Reply, reply, after}
+use Rattle.refusals.specs.Table.{Refusal, refusal, notWords, Reply, reply, after}
 use Rattle.parameters.specs.declared.ParameterSet.{ParameterSet}
 use Rattle.merkle.specs.Lists.{part, put}
 use Rattle.trees.specs.SetTrees.{leafCount}
@@ -34,14 +34,14 @@ enterAll s (r ∷ rs) book = enterAll s rs (enter s (r .place) (leafOf (s .«nod
 module _ (p : ℕ) (s : ParameterSet) where
   -- What the book refuses: of a replacement its leaf's length, its place and its leaf's words (Rules 6.4); of a push its length, its places
   -- and its leaves' words (Rules 6.5).
-  unfoldable pub bookRows : Call → List TableRow
-  bookRows (replacement q leaf) =
-      row 10 (not (has leaf (s .«node_size»))) ∷
-      row 11 (not (ltb q (leafCount p s))) ∷
+  unfoldable pub bookRefusals : Call → List Refusal
+  bookRefusals (replacement q leaf) =
+      refusal 10 (not (has leaf (s .«node_size»))) ∷
+      refusal 11 (not (ltb q (leafCount p s))) ∷
       notWords p leaf ∷ []
-  bookRows (push rs) =
-      row 10 (not (fewRecords rs)) ∷
-      row 11 (not (placesBelow (leafCount p s) rs)) ∷
+  bookRefusals (push rs) =
+      refusal 10 (not (fewRecords rs)) ∷
+      refusal 11 (not (placesBelow (leafCount p s) rs)) ∷
       notWords p (usedWords (s .«node_size») rs) ∷ []
 
   -- What it enters where it refuses nothing, and what it then answers: h for each leaf.
@@ -54,7 +54,7 @@ module _ (p : ℕ) (s : ParameterSet) where
   bookCount (push rs) = s .height * length rs
 
   unfoldable pub bookReply : Call → Reply
-  bookReply c = reply (bookRows c) (bookCount c ∷ [])
+  bookReply c = reply (bookRefusals c) (bookCount c ∷ [])
 
   -- the leaves after a call (Rules 6.6)
   unfoldable pub bookAfter : Call → List ℕ → List ℕ

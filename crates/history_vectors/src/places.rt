@@ -16,7 +16,7 @@ const P: u64 = 18446744069414584321;
 
 // What a reader hands back for a level.
 fn print_level(set: ParameterSet, siblings: &[u64], level: u64) {
-    let row = reader_calls::level_row(set, siblings, level);
+    let row = reader_calls::level_refusal(set, siblings, level);
     if row != 0 {
         answers::refused(row);
         return;

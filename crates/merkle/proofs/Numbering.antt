@@ -215,8 +215,8 @@ module _ (S : Shape) (G : Regular S) where
   -- ---- the climb and the opening
 
   module _ (h q : ℕ) (inside : q < k ^ h) where
-    row-of : (j f : ℕ) → j < h → f ≡ nodesBefore S h j + over S q j → f / k ≡ rowsBefore S h j + over S q (suc j)
-    row-of j f b e =
+    refusal-of : (j f : ℕ) → j < h → f ≡ nodesBefore S h j + over S q j → f / k ≡ rowsBefore S h j + over S q (suc j)
+    refusal-of j f b e =
         ap (λ (a : ℕ). a / k) (e ∙ ap (λ (a : ℕ). a + over S q j) (nodes-rows h j (omega arith)))
         ∙ mul-add-div (some-arity S G) (rowsBefore S h j) (over S q j)
         ∙ ap (λ (a : ℕ). rowsBefore S h j + a) (sym (over-next S G q j))
@@ -225,11 +225,11 @@ module _ (S : Shape) (G : Regular S) where
     unfolding numberOf nodesBefore sum
     number-at zero b = omega (arith, over-leaf S G q)
     number-at (suc j) b =
-        omega (arith, row-of j (numberOf S (k ^ h) q j) b (number-at j (omega arith)), nodes-above h j)
+        omega (arith, refusal-of j (numberOf S (k ^ h) q j) b (number-at j (omega arith)), nodes-above h j)
 
     -- the number of its row, and where it stands there
     pub number-row : (j : ℕ) → j < h → numberOf S (k ^ h) q j / k ≡ rowsBefore S h j + over S q (suc j)
-    number-row j b = row-of j (numberOf S (k ^ h) q j) b (number-at j (omega arith))
+    number-row j b = refusal-of j (numberOf S (k ^ h) q j) b (number-at j (omega arith))
 
     pub number-child : (j : ℕ) → j < h → numberOf S (k ^ h) q j % k ≡ child S q j
     number-child j b =

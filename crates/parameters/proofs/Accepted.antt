@@ -11,11 +11,11 @@ use lib.ListN.{length}
 use borrow.Author.Tests.{eqb-true, eqb-false, ltb-false}
 use Rattle.modular.specs.Arithmetic.{allWords}
 use Rattle.modular.proofs.Words.{left-true, right-true}
-use Rattle.refusals.specs.Table.{TableRow, row, firstRow}
-use Rattle.refusals.proofs.Table.{Numbered, none, next, numbered-append, row-none, first-none}
+use Rattle.refusals.specs.Table.{Refusal, refusal, firstRefusal}
+use Rattle.refusals.proofs.Table.{Numbered, none, next, numbered-append, refusal-none, first-none}
 use Rattle.poseidon2.specs.Statements.{Width}
-use Rattle.parameters.specs.Rows.{badWidth, badNodeSize, badFullRounds, badPartialRounds, badHeight, constantCount, badLengths, hasZero, badDiagonal, numberRows, shapeRows, listRows, validationRows}
-use Rattle.parameters.specs.ParameterSet.{heldRows, setRows}
+use Rattle.parameters.specs.Refusals.{badWidth, badNodeSize, badFullRounds, badPartialRounds, badHeight, constantCount, badLengths, hasZero, badDiagonal, numberRefusals, shapeRefusals, listRefusals, validationRefusals}
+use Rattle.parameters.specs.ParameterSet.{heldRefusals, setRefusals}
 use Rattle.parameters.specs.declared.ParameterSet.{ParameterSet}
 
 -- of a test of two parts that fails neither holds
@@ -106,60 +106,60 @@ pub record Lists (p : ℕ) (D C : List ℕ) : Type 0 where
   pub noZero : hasZero D ≡ false
   pub sum : badDiagonal p D ≡ false
 
-pub numbers-of : (t l h rf rp : ℕ) → firstRow (numberRows t l h rf rp) ≡ 0 → Numbers t l h rf rp
-unfolding numberRows
+pub numbers-of : (t l h rf rp : ℕ) → firstRefusal (numberRefusals t l h rf rp) ≡ 0 → Numbers t l h rf rp
+unfolding numberRefusals
 numbers-of t l h rf rp e =
-    let r1 = row-none 0 (badWidth t) _ e in
-    let r2 = row-none 1 (badNodeSize t l) _ (r1 .1) in
-    let r3 = row-none 2 (badFullRounds rf) _ (r2 .1) in
-    let r4 = row-none 3 (badPartialRounds rp) _ (r3 .1) in
-    let r5 = row-none 4 (badHeight (t / l) h) _ (r4 .1) in
+    let r1 = refusal-none 0 (badWidth t) _ e in
+    let r2 = refusal-none 1 (badNodeSize t l) _ (r1 .1) in
+    let r3 = refusal-none 2 (badFullRounds rf) _ (r2 .1) in
+    let r4 = refusal-none 3 (badPartialRounds rp) _ (r3 .1) in
+    let r5 = refusal-none 4 (badHeight (t / l) h) _ (r4 .1) in
     record { width = width-of t (r1 .0); nodeSize = node-size-of t l (r2 .0); rounds = rounds-of rf rp (r3 .0) (r4 .0); height = height-of (t / l) h (r5 .0) }
 
-pub numbers-numbered : (t l h rf rp : ℕ) → Numbered (numberRows t l h rf rp)
-unfolding numberRows
+pub numbers-numbered : (t l h rf rp : ℕ) → Numbered (numberRefusals t l h rf rp)
+unfolding numberRefusals
 numbers-numbered t l h rf rp = next (lit< tt) (next (lit< tt) (next (lit< tt) (next (lit< tt) (next (lit< tt) none))))
 
-pub lists-of : (p : ℕ) (D C : List ℕ) → firstRow (listRows p D C) ≡ 0 → Lists p D C
-unfolding listRows
+pub lists-of : (p : ℕ) (D C : List ℕ) → firstRefusal (listRefusals p D C) ≡ 0 → Lists p D C
+unfolding listRefusals
 lists-of p D C e =
-    let r7 = row-none 6 (not (allWords p D && allWords p C)) _ e in
-    let r8 = row-none 7 (hasZero D) _ (r7 .1) in
-    let r9 = row-none 8 (badDiagonal p D) _ (r8 .1) in
+    let r7 = refusal-none 6 (not (allWords p D && allWords p C)) _ e in
+    let r8 = refusal-none 7 (hasZero D) _ (r7 .1) in
+    let r9 = refusal-none 8 (badDiagonal p D) _ (r8 .1) in
     let w = not-false (allWords p D && allWords p C) (r7 .0) in
     record { diagonal = left-true (allWords p D) (allWords p C) w; constants = right-true (allWords p D) (allWords p C) w; noZero = r8 .0; sum = r9 .0 }
 
--- The rows of a set that is handed in.
-pub lists-numbered : (p : ℕ) (D C : List ℕ) → Numbered (listRows p D C)
-unfolding listRows
+-- The refusals of a set that is handed in.
+pub lists-numbered : (p : ℕ) (D C : List ℕ) → Numbered (listRefusals p D C)
+unfolding listRefusals
 lists-numbered p D C = next (lit< tt) (next (lit< tt) (next (lit< tt) none))
 
-pub set-numbered : (p : ℕ) (s : ParameterSet) → Numbered (setRows p s)
-unfolding setRows heldRows
+pub set-numbered : (p : ℕ) (s : ParameterSet) → Numbered (setRefusals p s)
+unfolding setRefusals heldRefusals
 set-numbered p s = numbered-append (numbers-numbered _ _ _ _ _) (lists-numbered p _ _)
 
-pub shape-numbered : (t l h rf rp : ℕ) (D C : List ℕ) → Numbered (shapeRows t l h rf rp D C)
-unfolding shapeRows
+pub shape-numbered : (t l h rf rp : ℕ) (D C : List ℕ) → Numbered (shapeRefusals t l h rf rp D C)
+unfolding shapeRefusals
 shape-numbered t l h rf rp D C = numbered-append (numbers-numbered _ _ _ _ _) (next (lit< tt) none)
 
--- Validation goes by the shape's rows, then by the lists'.
-pub shape-first : (p t l h rf rp : ℕ) (D C : List ℕ) → validationRows p t l h rf rp D C ≡ shapeRows t l h rf rp D C ++ listRows p D C
-unfolding validationRows shapeRows numberRows
+-- Validation goes by the shape's refusals, then by the lists'.
+pub shape-first : (p t l h rf rp : ℕ) (D C : List ℕ) → validationRefusals p t l h rf rp D C ≡ shapeRefusals t l h rf rp D C ++ listRefusals p D C
+unfolding validationRefusals shapeRefusals numberRefusals
 shape-first p t l h rf rp D C = refl
 
 -- The lists of a set that is held have the places that the set has for them.
-pub shape-fits : (t l h rf rp : ℕ) (D C : List ℕ) → firstRow (shapeRows t l h rf rp D C) ≡ 0 → (length D ≤ 12) × (length C ≤ 208)
-unfolding shapeRows badLengths
+pub shape-fits : (t l h rf rp : ℕ) (D C : List ℕ) → firstRefusal (shapeRefusals t l h rf rp D C) ≡ 0 → (length D ≤ 12) × (length C ≤ 208)
+unfolding shapeRefusals badLengths
 shape-fits t l h rf rp D C e =
-    let n = first-none (numberRows t l h rf rp) (row 6 (badLengths t rf rp D C) ∷ []) (numbers-numbered t l h rf rp) e in
+    let n = first-none (numberRefusals t l h rf rp) (refusal 6 (badLengths t rf rp D C) ∷ []) (numbers-numbered t l h rf rp) e in
     let N = numbers-of t l h rf rp (n .0) in
-    let r6 = row-none 5 (badLengths t rf rp D C) [] (n .1) in
+    let r6 = refusal-none 5 (badLengths t rf rp D C) [] (n .1) in
     let b = not-false (eqb (length D) t && eqb (length C) (constantCount t rf rp)) (r6 .0) in
     let d : length D ≡ t = eqb-true (length D) t (left-true (eqb (length D) t) (eqb (length C) (constantCount t rf rp)) b) in
     let c : length C ≡ constantCount t rf rp = eqb-true (length C) (constantCount t rf rp) (right-true (eqb (length D) t) (eqb (length C) (constantCount t rf rp)) b) in
     (omega (arith, width-fits t (N .width)), omega (arith, count-fits t l h rf rp N))
 
-pub lists-fit : (p t l h rf rp : ℕ) (D C : List ℕ) → firstRow (validationRows p t l h rf rp D C) ≡ 0 → (length D ≤ 12) × (length C ≤ 208)
+pub lists-fit : (p t l h rf rp : ℕ) (D C : List ℕ) → firstRefusal (validationRefusals p t l h rf rp D C) ≡ 0 → (length D ≤ 12) × (length C ≤ 208)
 lists-fit p t l h rf rp D C e =
     shape-fits t l h rf rp D C
-    (first-none (shapeRows t l h rf rp D C) (listRows p D C) (shape-numbered t l h rf rp D C) (sym (ap firstRow (shape-first p t l h rf rp D C)) ∙ e) .0)
+    (first-none (shapeRefusals t l h rf rp D C) (listRefusals p D C) (shape-numbered t l h rf rp D C) (sym (ap firstRefusal (shape-first p t l h rf rp D C)) ∙ e) .0)

@@ -11,13 +11,13 @@ use lib.Seq.{length-take-le, getD-take}
 use borrow.Author.Tests.{eqb-false}
 use Rattle.modular.specs.Arithmetic.{allWords}
 use Rattle.modular.proofs.Words.{words-at}
-use Rattle.refusals.specs.Table.{firstRow}
+use Rattle.refusals.specs.Table.{firstRefusal}
 use Rattle.refusals.proofs.Table.{first-none}
 use Rattle.poseidon2.specs.Layers.{sum}
 use Rattle.poseidon2.specs.Inverse.{inverses}
 use Rattle.poseidon2.specs.Statements.{Words, State, AcceptedDiagonal}
-use Rattle.parameters.specs.Rows.{constantCount, numberRows, listRows, badDiagonal}
-use Rattle.parameters.specs.ParameterSet.{heldRows, setRows}
+use Rattle.parameters.specs.Refusals.{constantCount, numberRefusals, listRefusals, badDiagonal}
+use Rattle.parameters.specs.ParameterSet.{heldRefusals, setRefusals}
 use Rattle.parameters.specs.declared.ParameterSet.{ParameterSet}
 use Rattle.parameters.proofs.Accepted.{Numbers, Lists, numbers-of, numbers-numbered, lists-of, width-fits}
 use Rattle.parameters.proofs.Lists.{nonzero-at}
@@ -37,10 +37,10 @@ state-of p t xs positive e w = record { width = e; words = words-of p xs positiv
 pub used-at : (p n : ℕ) (xs : List ℕ) → Words p (take n xs) → (i : ℕ) → i < n → getD xs i 0 < p
 used-at p n xs W i b = rw (getD-take n xs i 0 b) at (W .at i)
 
-module _ (p t l h rf rp : ℕ) (D C : List ℕ) (positive : 0 < p) (none : firstRow (heldRows p t l h rf rp D C) ≡ 0) where
-  both : (firstRow (numberRows t l h rf rp) ≡ 0) × (firstRow (listRows p (take t D) (take (constantCount t rf rp) C)) ≡ 0)
-  unfolding heldRows
-  both = first-none (numberRows t l h rf rp) (listRows p (take t D) (take (constantCount t rf rp) C)) (numbers-numbered t l h rf rp) none
+module _ (p t l h rf rp : ℕ) (D C : List ℕ) (positive : 0 < p) (none : firstRefusal (heldRefusals p t l h rf rp D C) ≡ 0) where
+  both : (firstRefusal (numberRefusals t l h rf rp) ≡ 0) × (firstRefusal (listRefusals p (take t D) (take (constantCount t rf rp) C)) ≡ 0)
+  unfolding heldRefusals
+  both = first-none (numberRefusals t l h rf rp) (listRefusals p (take t D) (take (constantCount t rf rp) C)) (numbers-numbered t l h rf rp) none
 
   pub numbers : Numbers t l h rf rp
   numbers = numbers-of t l h rf rp (both .0)
@@ -76,8 +76,8 @@ module _ (p t l h rf rp : ℕ) (D C : List ℕ) (positive : 0 < p) (none : first
   width-few = width-fits t (numbers .width)
 
 -- a node is no wider than a row
-pub node-size-fits : (p : ℕ) (s : ParameterSet) → 0 < p → firstRow (setRows p s) ≡ 0 → s .«node_size» ≤ s .width
-unfolding setRows
+pub node-size-fits : (p : ℕ) (s : ParameterSet) → 0 < p → firstRefusal (setRefusals p s) ≡ 0 → s .«node_size» ≤ s .width
+unfolding setRefusals
 node-size-fits p s positive none =
     let N = numbers p _ _ _ _ _ _ _ positive none in
     divisor-fits (s .width) (s .«node_size») (N .nodeSize .several)

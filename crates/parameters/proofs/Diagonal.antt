@@ -20,7 +20,7 @@ use Rattle.modular.proofs.PrimeField.{prime-laws}
 use Rattle.modular.proofs.Ring.{var, num, _⊕_, _⊗_, same?, ring-by, by, nothing}
 use Rattle.poseidon2.specs.Layers.{sum}
 use Rattle.poseidon2.specs.Inverse.{inverses}
-use Rattle.parameters.specs.Rows.{badDiagonal}
+use Rattle.parameters.specs.Refusals.{badDiagonal}
 
 sum-last : (xs : List ℕ) (x : ℕ) → sum (xs ++ (x ∷ [])) ≡ sum xs + x
 unfolding sum

@@ -6,7 +6,7 @@ use native.Mathlib.Nat.{pow-suc, pow-le-pow-right, mul-le-mul, lt-of-lt-of-le}
 use native.Mathlib.Numerals.{add-one}
 use native.Mathlib.Omega.{arith}
 use borrow.Author.Tests.{lt-ltb, le-ltb}
-use Rattle.parameters.specs.Rows.{badHeight}
+use Rattle.parameters.specs.Refusals.{badHeight}
 
 pub power-next : (k i : ℕ) → k ^ (i + 1) ≡ k ^ i * k
 power-next k i = rw (add-one i) (pow-suc k i)

@@ -11,7 +11,7 @@ use lib.Seq.{drop-cons, drop-length}
 use borrow.Author.Tests.{eq-eqb, ne-eqb}
 use Rattle.modular.specs.Arithmetic.{allWords}
 use Rattle.modular.proofs.Words.{none-words, word-first, not-word-first}
-use Rattle.parameters.specs.Rows.{hasZero}
+use Rattle.parameters.specs.Refusals.{hasZero}
 
 -- the numbers from i on: the one at i, and those from i + 1 on
 pub from-here : (xs : List ℕ) (i : ℕ) → i < length xs → drop i xs ≡ getD xs i 0 ∷ drop (i + 1) xs

@@ -1,3 +1,3 @@
--- The parameter set and the rows that turn one down.
+-- The parameter set and the refusals that turn one down.
 pub mod ParameterSet
-pub mod Rows
+pub mod Refusals

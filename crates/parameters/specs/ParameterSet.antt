@@ -4,8 +4,8 @@ use mathlib.Core.List.{List, [], _∷_, _++_}
 use Prim.Native.Nat.{ℕ, _-_, _/_}
 use lib.Dec.{eqb}
 use lib.ListN.{length, take, replicate}
-use Rattle.refusals.specs.Table.{TableRow, firstRow}
-use Rattle.parameters.specs.Rows.{constantCount, numberRows, shapeRows, listRows, validationRows}
+use Rattle.refusals.specs.Table.{Refusal, firstRefusal}
+use Rattle.parameters.specs.Refusals.{constantCount, numberRefusals, shapeRefusals, listRefusals, validationRefusals}
 use Rattle.parameters.specs.declared.ParameterSet.{ParameterSet}
 use Rattle.parameters.specs.declared.Validation.{Validation}
 
@@ -26,8 +26,8 @@ held t l h rf rp D C = record {
 }
 
 -- A refusal: the row's number, and zeros for the set.
-unfoldable pub refusal : ℕ → Validation
-refusal number = record {
+unfoldable pub refusedValidation : ℕ → Validation
+refusedValidation number = record {
   number = number;
   parameters = record {
     width = 0;
@@ -43,19 +43,19 @@ refusal number = record {
 -- A set that is held, not judged: a row from 1 to 6, or 0 and the set.
 unfoldable pub holding : ℕ → ℕ → ℕ → ℕ → ℕ → List ℕ → List ℕ → Validation
 holding t l h rf rp D C =
-    let number = firstRow (shapeRows t l h rf rp D C) in
-    cond (eqb number 0) (record { number = 0; parameters = held t l h rf rp D C }) (refusal number)
+    let number = firstRefusal (shapeRefusals t l h rf rp D C) in
+    cond (eqb number 0) (record { number = 0; parameters = held t l h rf rp D C }) (refusedValidation number)
 
 -- What validation answers: the first row that applies, or 0 and the set.
 unfoldable pub validation : ℕ → ℕ → ℕ → ℕ → ℕ → ℕ → List ℕ → List ℕ → Validation
 validation p t l h rf rp D C =
-    let number = firstRow (validationRows p t l h rf rp D C) in
-    cond (eqb number 0) (record { number = 0; parameters = held t l h rf rp D C }) (refusal number)
+    let number = firstRefusal (validationRefusals p t l h rf rp D C) in
+    cond (eqb number 0) (record { number = 0; parameters = held t l h rf rp D C }) (refusedValidation number)
 
--- "Every other entry judges the numbers and used words of the set it is handed by the same rows; places beyond the used ones aren't read."
-unfoldable pub heldRows : ℕ → ℕ → ℕ → ℕ → ℕ → ℕ → List ℕ → List ℕ → List TableRow
-heldRows p t l h rf rp D C = numberRows t l h rf rp ++ listRows p (take t D) (take (constantCount t rf rp) C)
+-- "Every other entry judges the numbers and used words of the set it is handed by the same refusals; places beyond the used ones aren't read."
+unfoldable pub heldRefusals : ℕ → ℕ → ℕ → ℕ → ℕ → ℕ → List ℕ → List ℕ → List Refusal
+heldRefusals p t l h rf rp D C = numberRefusals t l h rf rp ++ listRefusals p (take t D) (take (constantCount t rf rp) C)
 
-unfoldable pub setRows : ℕ → ParameterSet → List TableRow
-setRows p s =
-    heldRows p (s .width) (s .«node_size») (s .height) (s .«full_rounds») (s .«partial_rounds») (s .diagonal) (s .constants)
+unfoldable pub setRefusals : ℕ → ParameterSet → List Refusal
+setRefusals p s =
+    heldRefusals p (s .width) (s .«node_size») (s .height) (s .«full_rounds») (s .«partial_rounds») (s .diagonal) (s .constants)

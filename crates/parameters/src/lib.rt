@@ -5,9 +5,9 @@ ghost use Prim.Native.Nat.{_≤_};
 ghost use lib.ListN.{length, take};
 ghost use Rattle.modular.specs.Arithmetic.{allWords};
 ghost use Rattle.modular.specs.Goldilocks.{p};
-ghost use Rattle.refusals.specs.Table.{firstRow};
-ghost use Rattle.parameters.specs.ParameterSet.{padded, held, refusal, holding, validation, heldRows};
-ghost use Rattle.parameters.specs.Rows.{badWidth, badNodeSize, badFullRounds, badPartialRounds, badHeight, badLengths, hasZero, badDiagonal, numberRows, shapeRows, listRows, validationRows};
+ghost use Rattle.refusals.specs.Table.{firstRefusal};
+ghost use Rattle.parameters.specs.ParameterSet.{padded, held, refusedValidation, holding, validation, heldRefusals};
+ghost use Rattle.parameters.specs.Refusals.{badWidth, badNodeSize, badFullRounds, badPartialRounds, badHeight, badLengths, hasZero, badDiagonal, numberRefusals, shapeRefusals, listRefusals, validationRefusals};
 
 const P: u64 = 18446744069414584321;
 
@@ -149,14 +149,14 @@ fn bad_diagonal(diagonal: &[u64]) -> bool
 }
 
 // The first of rows 1 to 5 that applies, or 0.
-fn row_of_numbers(
+fn refusal_of_numbers(
     width: u64,
     node_size: u64,
     height: u64,
     full_rounds: u64,
     partial_rounds: u64,
 ) -> u8
-    ensures { λ r. ⌜ r ≡ firstRow (numberRows width «node_size» height «full_rounds» «partial_rounds») ⌝ }
+    ensures { λ r. ⌜ r ≡ firstRefusal (numberRefusals width «node_size» height «full_rounds» «partial_rounds») ⌝ }
 {
     if bad_width(width) {
         return 1;
@@ -177,8 +177,8 @@ fn row_of_numbers(
 }
 
 // The first of rows 7 to 9 that applies, or 0.
-fn row_of_lists(diagonal: &[u64], constants: &[u64]) -> u8
-    ensures { λ r. ⌜ r ≡ firstRow (listRows p (now (diagonal .entry)) (now (constants .entry))) ⌝ }
+fn refusal_of_lists(diagonal: &[u64], constants: &[u64]) -> u8
+    ensures { λ r. ⌜ r ≡ firstRefusal (listRefusals p (now (diagonal .entry)) (now (constants .entry))) ⌝ }
 {
     if !all_words(diagonal) {
         return 7;
@@ -216,7 +216,7 @@ fn bad_lengths(
 }
 
 // The first of rows 1 to 6 that applies, or 0.
-fn row_of_shape(
+fn refusal_of_shape(
     width: u64,
     node_size: u64,
     height: u64,
@@ -225,11 +225,11 @@ fn row_of_shape(
     diagonal: &[u64],
     constants: &[u64],
 ) -> u8
-    ensures { λ r. ⌜ r ≡ firstRow (shapeRows width «node_size» height «full_rounds» «partial_rounds» (now (diagonal .entry)) (now (constants .entry))) ⌝ }
+    ensures { λ r. ⌜ r ≡ firstRefusal (shapeRefusals width «node_size» height «full_rounds» «partial_rounds» (now (diagonal .entry)) (now (constants .entry))) ⌝ }
 {
-    let row = row_of_numbers(width, node_size, height, full_rounds, partial_rounds);
-    if row != 0 {
-        return row;
+    let number = refusal_of_numbers(width, node_size, height, full_rounds, partial_rounds);
+    if number != 0 {
+        return number;
     }
     if bad_lengths(width, full_rounds, partial_rounds, diagonal, constants) {
         return 6;
@@ -238,7 +238,7 @@ fn row_of_shape(
 }
 
 // The first of rows 1 to 9 that applies, or 0.
-pub fn row_of(
+pub fn refusal_of(
     width: u64,
     node_size: u64,
     height: u64,
@@ -247,9 +247,9 @@ pub fn row_of(
     diagonal: &[u64],
     constants: &[u64],
 ) -> u8
-    ensures { λ r. ⌜ r ≡ firstRow (validationRows p width «node_size» height «full_rounds» «partial_rounds» (now (diagonal .entry)) (now (constants .entry))) ⌝ }
+    ensures { λ r. ⌜ r ≡ firstRefusal (validationRefusals p width «node_size» height «full_rounds» «partial_rounds» (now (diagonal .entry)) (now (constants .entry))) ⌝ }
 {
-    let row = row_of_shape(
+    let number = refusal_of_shape(
         width,
         node_size,
         height,
@@ -258,10 +258,10 @@ pub fn row_of(
         diagonal,
         constants,
     );
-    if row != 0 {
-        return row;
+    if number != 0 {
+        return number;
     }
-    row_of_lists(diagonal, constants)
+    refusal_of_lists(diagonal, constants)
 }
 
 // The places for D: the list, and zeros beyond it.
@@ -293,7 +293,7 @@ fn hold_constants(list: &[u64]) -> [u64; 208]
 }
 
 fn refused(number: u8) -> Validation
-    ensures { λ r. ⌜ r ≡ refusal number ⌝ }
+    ensures { λ r. ⌜ r ≡ refusedValidation number ⌝ }
 {
     Validation {
         number: number,
@@ -348,7 +348,7 @@ pub fn hold(
 ) -> Validation
     ensures { λ r. ⌜ r ≡ holding width «node_size» height «full_rounds» «partial_rounds» (now (diagonal .entry)) (now (constants .entry)) ⌝ }
 {
-    let number = row_of_shape(
+    let number = refusal_of_shape(
         width,
         node_size,
         height,
@@ -383,7 +383,7 @@ pub fn validate(
 ) -> Validation
     ensures { λ r. ⌜ r ≡ validation p width «node_size» height «full_rounds» «partial_rounds» (now (diagonal .entry)) (now (constants .entry)) ⌝ }
 {
-    let number = row_of(
+    let number = refusal_of(
         width,
         node_size,
         height,
@@ -415,7 +415,7 @@ fn first<'a>(list: &'a [u64], count: usize) -> &'a [u64]
 }
 
 // The first of the rows that applies to a set that is handed in, or 0. Its places beyond the used ones are not read.
-pub fn row_of_set(
+pub fn refusal_of_set(
     width: u64,
     node_size: u64,
     height: u64,
@@ -424,13 +424,13 @@ pub fn row_of_set(
     diagonal: &[u64; 12],
     constants: &[u64; 208],
 ) -> u8
-    ensures { λ r. ⌜ r ≡ firstRow (heldRows p width «node_size» height «full_rounds» «partial_rounds» (now (diagonal .entry)) (now (constants .entry))) ⌝ }
+    ensures { λ r. ⌜ r ≡ firstRefusal (heldRefusals p width «node_size» height «full_rounds» «partial_rounds» (now (diagonal .entry)) (now (constants .entry))) ⌝ }
 {
-    let row = row_of_numbers(width, node_size, height, full_rounds, partial_rounds);
-    if row != 0 {
-        return row;
+    let number = refusal_of_numbers(width, node_size, height, full_rounds, partial_rounds);
+    if number != 0 {
+        return number;
     }
     let used = width as usize;
     let count = (width * full_rounds + partial_rounds) as usize;
-    row_of_lists(first(diagonal, used), first(constants, count))
+    refusal_of_lists(first(diagonal, used), first(constants, count))
 }

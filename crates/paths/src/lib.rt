@@ -1,9 +1,12 @@
-// The path from a leaf to the root, by a place's siblings.
+// The path from a leaf to the root, by a place's siblings; and where two paths collide.
+pub mod collisions;
+pub mod comparison;
+
 ghost use mathlib.Core.Path.{_≡_};
 ghost use mathlib.Core.List.{List};
 ghost use Prim.Native.Nat.{ℕ, _+_, _*_, _-_, _≤_, _<_};
 ghost use lib.ListN.{length, take};
-ghost use Rattle.merkle.specs.Lists.{same, part};
+ghost use Rattle.merkle.specs.Lists.{part};
 ghost use Rattle.merkle.specs.Openings.{putBack, pathNode, accepts};
 ghost use Rattle.trees.specs.Shapes.{tree, ValidNumbers, ValidSet};
 use trees::Dimensions;
@@ -54,21 +57,6 @@ pub fn path_node(
     own
 }
 
-// Whether the list is the first of six words.
-fn begins(words: [u64; 6], list: &[u64]) -> bool
-    requires { ⌜ length (now list) ≤ 6 ⌝ }
-    ensures { λ r. ⌜ r ≡ same (take (length (now (list .entry))) words) (now (list .entry)) ⌝ }
-{
-    let mut i: usize = 0;
-    while i < list.len() {
-        if words[i] != list[i] {
-            return false;
-        }
-        i += 1;
-    }
-    true
-}
-
 // Whether the leaf, put back among its siblings at each level, ends in the root.
 pub fn accepts(
     d: Dimensions,
@@ -84,5 +72,5 @@ pub fn accepts(
     ensures { λ r. ⌜ r ≡ accepts (tree d (now (diagonal .entry)) (now (constants .entry))) (d .height) (now (root .entry)) place (now (leaf .entry)) (now (siblings .entry)) ⌝ }
 {
     let own = path_node(d, diagonal, constants, place, leaf, siblings, d.height);
-    begins(own, root)
+    comparison::first_alike(&own, root, root.len())
 }

@@ -8,7 +8,7 @@ use native.Mathlib.Decide.{decLt}
 use native.Mathlib.Omega.{arith}
 use lib.ListN.{length, take, drop, getD, set, length-drop, drop-of-length-le}
 use lib.Seq.{drop-drop, take-all, take-suc-set}
-use Rattle.parameters.specs.Rows.{constantCount}
+use Rattle.parameters.specs.Refusals.{constantCount}
 use Rattle.parameters.specs.ParameterSet.{validation}
 use Rattle.program.specs.Program.{littleEndian, numbersOf}
 

@@ -11,50 +11,50 @@ use lib.ListN.{length}
 use lib.Seq.{take-at}
 use borrow.Author.Tests.{lt-ltb, le-ltb, eq-eqb, ne-eqb, eqb-true, not-false}
 use Rattle.modular.proofs.Words.{left-true, right-true}
-use Rattle.refusals.specs.Table.{TableRow, row, notWords, firstRow, refused, done, reply, after}
-use Rattle.refusals.proofs.Table.{Numbered, next, numbered-append, row-none, first-front, first-back, first-none, reply-refused, written-after, applied, passed}
+use Rattle.refusals.specs.Table.{Refusal, refusal, notWords, firstRefusal, refused, done, reply, after}
+use Rattle.refusals.proofs.Table.{Numbered, next, numbered-append, refusal-none, first-front, first-back, first-none, reply-refused, written-after, applied, passed}
 use Rattle.parameters.specs.declared.ParameterSet.{ParameterSet}
 use Rattle.parameters.specs.declared.Validation.{Validation}
-use Rattle.parameters.specs.ParameterSet.{held, padded, refusal, validation, heldRows, setRows}
-use Rattle.parameters.specs.Rows.{constantCount, numberRows, listRows, badLengths, validationRows}
+use Rattle.parameters.specs.ParameterSet.{held, padded, refusedValidation, validation, heldRefusals, setRefusals}
+use Rattle.parameters.specs.Refusals.{constantCount, numberRefusals, listRefusals, badLengths, validationRefusals}
 use Rattle.parameters.proofs.Accepted.{numbers-of, numbers-numbered, lists-numbered, set-numbered, width-fits}
 use Rattle.merkle.specs.Storeless.{storelessRoot}
 use Rattle.state_entries.specs.declared.outcome.Outcome.{Outcome}
 use Rattle.state_entries.specs.declared.outcome.Outcome.the-variants.{Done, Refused}
 use Rattle.state_entries.specs.Permutation.{outcomeReply}
 use Rattle.trees.specs.SetTrees.{treeOf, leafWords}
-use Rattle.tree_entries.specs.Trees.{has, storelessRows, storelessReply, storelessRooted}
-use Rattle.program.specs.Program.{readWidth, readNodeSize, readHeight, readFullRounds, readPartialRounds, readDiagonal, readConstants, readLeaves, readSet, readValidation, readRows, readRoot, badByteCount, programReply, numbersOf, lines, refusedLine, replyText, rootText, decimal, digits, EmptyInput}
+use Rattle.tree_entries.specs.Trees.{has, storelessRefusals, storelessReply, storelessRooted}
+use Rattle.program.specs.Program.{readWidth, readNodeSize, readHeight, readFullRounds, readPartialRounds, readDiagonal, readConstants, readLeaves, readSet, readValidation, readRefusals, readRoot, badByteCount, programReply, numbersOf, lines, refusedLine, replyText, rootText, decimal, digits, EmptyInput}
 
 -- Refusals that do not apply leave the reply to those after them.
-reply-back : (rows more : List TableRow) (result : List ℕ) → Numbered rows → firstRow rows ≡ 0 → reply (rows ++ more) result ≡ reply more result
-unfolding firstRow reply
+reply-back : (refusals more : List Refusal) (result : List ℕ) → Numbered refusals → firstRefusal refusals ≡ 0 → reply (refusals ++ more) result ≡ reply more result
+unfolding firstRefusal reply
 reply-back [] more result N e = refl
-reply-back (r ∷ rows) more result (next h N) e = at (r .applies) (reply-back rows more result N) e
+reply-back (r ∷ refusals) more result (next h N) e = at (r .applies) (reply-back refusals more result N) e
   where
-    at : (b : Bool) → (firstRow rows ≡ 0 → reply (rows ++ more) result ≡ reply more result) → cond b (r .number) (firstRow rows) ≡ 0
-        → cond b (refused (r .number)) (reply (rows ++ more) result) ≡ reply more result
+    at : (b : Bool) → (firstRefusal refusals ≡ 0 → reply (refusals ++ more) result ≡ reply more result) → cond b (r .number) (firstRefusal refusals) ≡ 0
+        → cond b (refused (r .number)) (reply (refusals ++ more) result) ≡ reply more result
     at true ih e = absurd (omega arith)
     at false ih e = ih e
 
 -- A reply of other results: the same refusal, or the result.
-refused-too : (rows : List TableRow) (result other : List ℕ) (n : ℕ) → refused n ≡ reply rows result → reply rows other ≡ refused n
+refused-too : (refusals : List Refusal) (result other : List ℕ) (n : ℕ) → refused n ≡ reply refusals result → reply refusals other ≡ refused n
 unfolding reply
 refused-too [] result other n e = absurd (let z : _≡_ {A = ℕ} 0 1 = cc in omega arith)
-refused-too (r ∷ rows) result other n e = at (r .applies) (refused-too rows result other n) e
+refused-too (r ∷ refusals) result other n e = at (r .applies) (refused-too refusals result other n) e
   where
-    at : (b : Bool) → (refused n ≡ reply rows result → reply rows other ≡ refused n) → refused n ≡ cond b (refused (r .number)) (reply rows result)
-        → cond b (refused (r .number)) (reply rows other) ≡ refused n
+    at : (b : Bool) → (refused n ≡ reply refusals result → reply refusals other ≡ refused n) → refused n ≡ cond b (refused (r .number)) (reply refusals result)
+        → cond b (refused (r .number)) (reply refusals other) ≡ refused n
     at true ih e = sym e
     at false ih e = ih e
 
-done-too : (rows : List TableRow) (result other : List ℕ) → done result ≡ reply rows result → reply rows other ≡ done other
+done-too : (refusals : List Refusal) (result other : List ℕ) → done result ≡ reply refusals result → reply refusals other ≡ done other
 unfolding reply
 done-too [] result other e = refl
-done-too (r ∷ rows) result other e = at (r .applies) (done-too rows result other) e
+done-too (r ∷ refusals) result other e = at (r .applies) (done-too refusals result other) e
   where
-    at : (b : Bool) → (done result ≡ reply rows result → reply rows other ≡ done other) → done result ≡ cond b (refused (r .number)) (reply rows result)
-        → cond b (refused (r .number)) (reply rows other) ≡ done other
+    at : (b : Bool) → (done result ≡ reply refusals result → reply refusals other ≡ done other) → done result ≡ cond b (refused (r .number)) (reply refusals result)
+        → cond b (refused (r .number)) (reply refusals other) ≡ done other
     at true ih e = absurd (let z : _≡_ {A = ℕ} 0 1 = cc in omega arith)
     at false ih e = ih e
 
@@ -64,46 +64,46 @@ and-true false b e = refl
 
 -- What validation says of its refusals.
 module _ (p t l h rf rp : ℕ) (D C : List ℕ) where
-  abbrev rows : List TableRow
-  rows = validationRows p t l h rf rp D C
+  abbrev refusals : List Refusal
+  refusals = validationRefusals p t l h rf rp D C
 
-  rows-numbered : Numbered rows
-  unfolding validationRows
+  rows-numbered : Numbered refusals
+  unfolding validationRefusals
   rows-numbered = numbered-append (numbers-numbered t l h rf rp) (next (lit< tt) (lists-numbered p D C))
 
-  number-is : validation p t l h rf rp D C .number ≡ firstRow rows
-  unfolding validation refusal
-  number-is = at (eqb (firstRow rows) 0) refl
+  number-is : validation p t l h rf rp D C .number ≡ firstRefusal refusals
+  unfolding validation refusedValidation
+  number-is = at (eqb (firstRefusal refusals) 0) refl
     where
-      at : (b : Bool) → eqb (firstRow rows) 0 ≡ b
-          → cond b (record { number = 0; parameters = held t l h rf rp D C }) (refusal (firstRow rows)) .number ≡ firstRow rows
-      at true e = sym (eqb-true (firstRow rows) 0 e)
+      at : (b : Bool) → eqb (firstRefusal refusals) 0 ≡ b
+          → cond b (record { number = 0; parameters = held t l h rf rp D C }) (refusal (firstRefusal refusals)) .number ≡ firstRefusal refusals
+      at true e = sym (eqb-true (firstRefusal refusals) 0 e)
       at false e = refl
 
-  module _ (none-applies : firstRow rows ≡ 0) where
+  module _ (none-applies : firstRefusal refusals ≡ 0) where
     set-is : validation p t l h rf rp D C .parameters ≡ held t l h rf rp D C
     unfolding validation
-    set-is = rw (eq-eqb (firstRow rows) 0 none-applies)
+    set-is = rw (eq-eqb (firstRefusal refusals) 0 none-applies)
 
-    parts : (firstRow (numberRows t l h rf rp) ≡ 0) × (firstRow (row 6 (badLengths t rf rp D C) ∷ listRows p D C) ≡ 0)
-    unfolding validationRows
-    parts = first-none (numberRows t l h rf rp) (row 6 (badLengths t rf rp D C) ∷ listRows p D C) (numbers-numbered t l h rf rp) none-applies
+    parts : (firstRefusal (numberRefusals t l h rf rp) ≡ 0) × (firstRefusal (refusal 6 (badLengths t rf rp D C) ∷ listRefusals p D C) ≡ 0)
+    unfolding validationRefusals
+    parts = first-none (numberRefusals t l h rf rp) (refusal 6 (badLengths t rf rp D C) ∷ listRefusals p D C) (numbers-numbered t l h rf rp) none-applies
 
     lengths : (length D ≡ t) × (length C ≡ constantCount t rf rp)
     unfolding badLengths
     lengths =
-        let b = not-false (eqb (length D) t && eqb (length C) (constantCount t rf rp)) (row-none 5 (badLengths t rf rp D C) (listRows p D C) (parts .1) .0) in (
+        let b = not-false (eqb (length D) t && eqb (length C) (constantCount t rf rp)) (refusal-none 5 (badLengths t rf rp D C) (listRefusals p D C) (parts .1) .0) in (
           eqb-true (length D) t (left-true (eqb (length D) t) (eqb (length C) (constantCount t rf rp)) b),
           eqb-true (length C) (constantCount t rf rp) (right-true (eqb (length D) t) (eqb (length C) (constantCount t rf rp)) b),
         )
 
     -- the set that is held is not refused itself
-    passes-again : firstRow (setRows p (held t l h rf rp D C)) ≡ 0
-    unfolding setRows heldRows held padded
+    passes-again : firstRefusal (setRefusals p (held t l h rf rp D C)) ≡ 0
+    unfolding setRefusals heldRefusals held padded
     passes-again =
         rw (take-at D _ t (lengths .0), take-at C _ (constantCount t rf rp) (lengths .1))
-        (first-back (numberRows t l h rf rp) (listRows p D C) (numbers-numbered t l h rf rp) (parts .0)
-        ∙ row-none 5 (badLengths t rf rp D C) (listRows p D C) (parts .1) .1)
+        (first-back (numberRefusals t l h rf rp) (listRefusals p D C) (numbers-numbered t l h rf rp) (parts .0)
+        ∙ refusal-none 5 (badLengths t rf rp D C) (listRefusals p D C) (parts .1) .1)
 
     node-few : l ≤ 6
     node-few =
@@ -111,25 +111,25 @@ module _ (p t l h rf rp : ℕ) (D C : List ℕ) where
         omega (arith, mul-le-mul-right l (N .nodeSize .several), div-mul-le-self t l, width-fits t (N .width))
 
 module _ (p : ℕ) (ns : List ℕ) (v : Validation) (e : v ≡ readValidation p ns) where
-  abbrev validRows : List TableRow
-  validRows = rows p (readWidth ns) (readNodeSize ns) (readHeight ns) (readFullRounds ns) (readPartialRounds ns) (readDiagonal ns) (readConstants ns)
+  abbrev validRows : List Refusal
+  validRows = refusals p (readWidth ns) (readNodeSize ns) (readHeight ns) (readFullRounds ns) (readPartialRounds ns) (readDiagonal ns) (readConstants ns)
 
-  abbrev leafRows : List TableRow
-  leafRows = row 10 (not (has (readLeaves ns) (leafWords p (readSet ns)))) ∷ notWords p (readLeaves ns) ∷ []
+  abbrev leafRows : List Refusal
+  leafRows = refusal 10 (not (has (readLeaves ns) (leafWords p (readSet ns)))) ∷ notWords p (readLeaves ns) ∷ []
 
-  first-is : v .number ≡ firstRow validRows
+  first-is : v .number ≡ firstRefusal validRows
   unfolding readValidation
   first-is = ap (λ (w : Validation). w .number) e ∙ number-is p _ _ _ _ _ _ _
 
   -- A set that is refused.
-  pub turned-down : v .number ≢ 0 → reply (readRows p ns) (readRoot p ns) ≡ refused (v .number)
-  unfolding readRows
+  pub turned-down : v .number ≢ 0 → reply (readRefusals p ns) (readRoot p ns) ≡ refused (v .number)
+  unfolding readRefusals
   turned-down o =
-      let front : firstRow (validRows ++ leafRows) ≡ firstRow validRows = first-front validRows leafRows (λ z. o (first-is ∙ z)) in
+      let front : firstRefusal (validRows ++ leafRows) ≡ firstRefusal validRows = first-front validRows leafRows (λ z. o (first-is ∙ z)) in
       reply-refused (validRows ++ leafRows) (readRoot p ns) (λ z. o (first-is ∙ sym front ∙ z)) ∙ ap refused (front ∙ sym first-is)
 
   module _ (z : v .number ≡ 0) where
-    none-of : firstRow validRows ≡ 0
+    none-of : firstRefusal validRows ≡ 0
     none-of = sym first-is ∙ z
 
     set-of : v .parameters ≡ readSet ns
@@ -143,20 +143,20 @@ module _ (p : ℕ) (ns : List ℕ) (v : Validation) (e : v ≡ readValidation p 
     module _ (node : List ℕ) (long : length node ≡ v .parameters .«node_size») where
       -- the storeless root's reply is that of the leaves' refusals
       by-leaves : storelessReply p (v .parameters) (readLeaves ns) node ≡ reply leafRows []
-      unfolding storelessReply storelessRows
+      unfolding storelessReply storelessRefusals
       by-leaves = rw (and-true (has (readLeaves ns) (leafWords p (v .parameters))) (has node (v .parameters .«node_size»)) (eq-eqb _ _ long), set-of)
-          (reply-back (setRows p (readSet ns)) leafRows [] (set-numbered p (readSet ns)) (passes-again p _ _ _ _ _ _ _ none-of))
+          (reply-back (setRefusals p (readSet ns)) leafRows [] (set-numbered p (readSet ns)) (passes-again p _ _ _ _ _ _ _ none-of))
 
-      by-rows : reply (readRows p ns) (readRoot p ns) ≡ reply leafRows (readRoot p ns)
-      unfolding readRows
+      by-rows : reply (readRefusals p ns) (readRoot p ns) ≡ reply leafRows (readRoot p ns)
+      unfolding readRefusals
       by-rows = reply-back validRows leafRows (readRoot p ns) (rows-numbered p _ _ _ _ _ _ _) none-of
 
       -- The leaves are refused, or there is a root.
-      pub root-refused : (n : ℕ) → refused n ≡ storelessReply p (v .parameters) (readLeaves ns) node → reply (readRows p ns) (readRoot p ns) ≡ refused n
+      pub root-refused : (n : ℕ) → refused n ≡ storelessReply p (v .parameters) (readLeaves ns) node → reply (readRefusals p ns) (readRoot p ns) ≡ refused n
       root-refused n r = by-rows ∙ refused-too leafRows [] (readRoot p ns) n (r ∙ by-leaves)
 
       pub root-done : done [] ≡ storelessReply p (v .parameters) (readLeaves ns) node
-          → reply (readRows p ns) (readRoot p ns) ≡ done (storelessRooted p (v .parameters) (readLeaves ns) node)
+          → reply (readRefusals p ns) (readRoot p ns) ≡ done (storelessRooted p (v .parameters) (readLeaves ns) node)
       unfolding storelessRooted readRoot held
       root-done r =
           by-rows ∙ done-too leafRows [] (readRoot p ns) (r ∙ by-leaves)
@@ -164,14 +164,14 @@ module _ (p : ℕ) (ns : List ℕ) (v : Validation) (e : v ≡ readValidation p 
 
       -- The program's text, by the outcome.
       pub refused-text : (leaves : List ℕ) (o : Outcome) (n : ℕ) → leaves ≡ readLeaves ns → o ≡ Refused n → outcomeReply o ≡ storelessReply p (v .parameters) leaves node
-          → refusedLine n ≡ replyText (reply (readRows p ns) (readRoot p ns))
+          → refusedLine n ≡ replyText (reply (readRefusals p ns) (readRoot p ns))
       unfolding outcomeReply replyText
       refused-text leaves o n same told r =
           let turned : refused n ≡ storelessReply p (v .parameters) (readLeaves ns) node = sym (ap outcomeReply told) ∙ r ∙ ap (λ (xs : List ℕ). storelessReply p (v .parameters) xs node) same in
           sym (ap replyText (root-refused n turned))
 
       pub done-text : (leaves written : List ℕ) (o : Outcome) → leaves ≡ readLeaves ns → o ≡ Done → outcomeReply o ≡ storelessReply p (v .parameters) leaves node
-          → written ≡ storelessRooted p (v .parameters) leaves node → lines written ≡ replyText (reply (readRows p ns) (readRoot p ns))
+          → written ≡ storelessRooted p (v .parameters) leaves node → lines written ≡ replyText (reply (readRefusals p ns) (readRoot p ns))
       unfolding outcomeReply replyText
       done-text leaves written o same told r w =
           let made : done [] ≡ storelessReply p (v .parameters) (readLeaves ns) node = sym (ap outcomeReply told) ∙ r ∙ ap (λ (xs : List ℕ). storelessReply p (v .parameters) xs node) same in
@@ -200,10 +200,10 @@ unfolding rootText programReply replyText
 text-of-bad-count p bytes e = sym (ap replyText (applied 10 (badByteCount (length bytes)) _ _ e))
 
 pub text-of-numbers : (p : ℕ) (bytes ns : List ℕ) (n : ℕ) → badByteCount (length bytes) ≡ false → n ≡ length bytes / 8 → ns ≡ numbersOf n bytes
-    → replyText (reply (readRows p ns) (readRoot p ns)) ≡ rootText p bytes
+    → replyText (reply (readRefusals p ns) (readRoot p ns)) ≡ rootText p bytes
 unfolding rootText programReply
 text-of-numbers p bytes ns n e i d =
-    ap (λ (xs : List ℕ). replyText (reply (readRows p xs) (readRoot p xs))) (d ∙ ap (λ (k : ℕ). numbersOf k bytes) i)
+    ap (λ (xs : List ℕ). replyText (reply (readRefusals p xs) (readRoot p xs))) (d ∙ ap (λ (k : ℕ). numbersOf k bytes) i)
     ∙ sym (ap replyText (passed 10 (badByteCount (length bytes)) _ _ e))
 
 pub empty-input : EmptyInput

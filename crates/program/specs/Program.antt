@@ -5,11 +5,11 @@ use mathlib.Core.List.{List, [], _∷_, _++_}
 use Prim.Native.Nat.{ℕ, zero, suc, _+_, _*_, _/_, _%_}
 use lib.Dec.{eqb, ltb}
 use lib.ListN.{length, getD, take, drop}
-use Rattle.refusals.specs.Table.{TableRow, row, notWords, Reply, refused, done, reply}
+use Rattle.refusals.specs.Table.{Refusal, refusal, notWords, Reply, refused, done, reply}
 use Rattle.parameters.specs.declared.ParameterSet.{ParameterSet}
 use Rattle.parameters.specs.declared.Validation.{Validation}
 use Rattle.parameters.specs.ParameterSet.{held, validation}
-use Rattle.parameters.specs.Rows.{constantCount, validationRows}
+use Rattle.parameters.specs.Refusals.{constantCount, validationRefusals}
 use Rattle.merkle.specs.Storeless.{storelessRoot}
 use Rattle.trees.specs.SetTrees.{treeOf, leafWords}
 use Rattle.tree_entries.specs.Trees.{has}
@@ -66,10 +66,10 @@ readValidation p ns =
     validation p (readWidth ns) (readNodeSize ns) (readHeight ns) (readFullRounds ns) (readPartialRounds ns) (readDiagonal ns) (readConstants ns)
 
 -- The refusals of the numbers: those of validation; then 10 and 12 for the leaves (Rules 8.8).
-unfoldable pub readRows : ℕ → List ℕ → List TableRow
-readRows p ns =
-    validationRows p (readWidth ns) (readNodeSize ns) (readHeight ns) (readFullRounds ns) (readPartialRounds ns) (readDiagonal ns) (readConstants ns)
-    ++ (row 10 (not (has (readLeaves ns) (leafWords p (readSet ns)))) ∷ notWords p (readLeaves ns) ∷ [])
+unfoldable pub readRefusals : ℕ → List ℕ → List Refusal
+readRefusals p ns =
+    validationRefusals p (readWidth ns) (readNodeSize ns) (readHeight ns) (readFullRounds ns) (readPartialRounds ns) (readDiagonal ns) (readConstants ns)
+    ++ (refusal 10 (not (has (readLeaves ns) (leafWords p (readSet ns)))) ∷ notWords p (readLeaves ns) ∷ [])
 
 unfoldable pub readRoot : ℕ → List ℕ → List ℕ
 readRoot p ns = storelessRoot (treeOf p (readSet ns)) (readHeight ns) (readLeaves ns)
@@ -82,7 +82,7 @@ badByteCount n = ltb n 40 || ltb 65536 n || not (eqb (n % 8) 0)
 unfoldable pub programReply : ℕ → List ℕ → Reply
 programReply p bytes =
     let ns = numbersOf (length bytes / 8) bytes in
-    reply (row 10 (badByteCount (length bytes)) ∷ readRows p ns) (readRoot p ns)
+    reply (refusal 10 (badByteCount (length bytes)) ∷ readRefusals p ns) (readRoot p ns)
 
 -- A number in decimal, as ASCII: the last digit follows the text of the others. It has at most as many digits as the first number says.
 unfoldable pub digits : ℕ → ℕ → List ℕ

@@ -5,8 +5,8 @@ ghost use Prim.Native.Nat.{_+_, _/_, _≤_, _<_, min};
 ghost use lib.ListN.{length, take, drop, getD};
 ghost use Rattle.modular.specs.Goldilocks.{p};
 ghost use Rattle.refusals.specs.Table.{reply};
-ghost use Rattle.parameters.specs.Rows.{constantCount};
-ghost use Rattle.program.specs.Program.{littleEndian, numbersOf, readWidth, readCount, readLeaves, readValidation, readRows, readRoot, decimal, lines, refusedLine, replyText, rootText, Appended};
+ghost use Rattle.parameters.specs.Refusals.{constantCount};
+ghost use Rattle.program.specs.Program.{littleEndian, numbersOf, readWidth, readCount, readLeaves, readValidation, readRefusals, readRoot, decimal, lines, refusedLine, replyText, rootText, Appended};
 use opening_tree::Outcome;
 use parameters::Validation;
 
@@ -201,7 +201,7 @@ fn set_read(numbers: &[u64]) -> Validation
 // The text for the numbers that were read.
 fn text_of(numbers: &[u64], output: &mut [u8]) -> usize
     requires { ⌜ length (now output) ≡ 128 ⌝ }
-    ensures { λ r. ⌜ (r ≤ length (now (output .exit))) × (take r (now (output .exit)) ≡ replyText (reply (readRows p (now (numbers .entry))) (readRoot p (now (numbers .entry))))) ⌝ }
+    ensures { λ r. ⌜ (r ≤ length (now (output .exit))) × (take r (now (output .exit)) ≡ replyText (reply (readRefusals p (now (numbers .entry))) (readRoot p (now (numbers .entry))))) ⌝ }
 {
     let validated = set_read(numbers);
     if validated.number != 0 {

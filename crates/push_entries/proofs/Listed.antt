@@ -1,4 +1,4 @@
--- A list of whole records is pushed as its records are, and any other is refused, by row 10 at the latest.
+-- A list of whole records is pushed as its records are, and any other is refused, by refusal 10 at the latest.
 use mathlib.Core.Path.{_≡_, refl, sym, ap, subst, _∙_}
 use mathlib.Core.Logic.{_≢_}
 use mathlib.Core.Bool.{Bool, true, false, not, _&&_}
@@ -8,10 +8,10 @@ use native.Mathlib.Omega.{arith}
 use lib.ListN.{length}
 use borrow.Author.Tests.{eq-eqb, ne-eqb}
 use Rattle.modular.specs.Goldilocks.{p}
-use Rattle.refusals.specs.Table.{TableRow, row, firstRow, notWords, refused, reply, after}
-use Rattle.refusals.proofs.Table.{row-applies, first-front, first-none, refused-equations}
+use Rattle.refusals.specs.Table.{Refusal, refusal, firstRefusal, notWords, refused, reply, after}
+use Rattle.refusals.proofs.Table.{refusal-applies, first-front, first-none, refused-equations}
 use Rattle.parameters.specs.declared.ParameterSet.{ParameterSet}
-use Rattle.parameters.specs.ParameterSet.{setRows}
+use Rattle.parameters.specs.ParameterSet.{setRefusals}
 use Rattle.parameters.proofs.Accepted.{set-numbered}
 use Rattle.trees.specs.SetTrees.{leafCount, storeWords}
 use Rattle.tree_entries.specs.Trees.{has}
@@ -20,20 +20,20 @@ use Rattle.change_entries.specs.Replacement.{changedReply}
 use Rattle.pushes.specs.declared.record.Record.{Record}
 use Rattle.pushes.specs.declared.tally.Tally.{Tally}
 use Rattle.pushes.specs.Records.{placesBelow, usedWords}
-use Rattle.push_entries.specs.Pushes.{fewRecords, pushing, pushRows, pushReply, pushed}
+use Rattle.push_entries.specs.Pushes.{fewRecords, pushing, pushRefusals, pushReply, pushed}
 use Rattle.pushes.specs.Passes.{Pass, pass, Going, eachOf}
 use Rattle.push_entries.specs.Ends.{beginOf, finishOf}
 use Rattle.push_entries.proofs.Passes.{begins, pushes, at-once, first-asks, second-asks}
 use Rattle.pushes.specs.Listed.{listed, wholeRecords}
-use Rattle.push_entries.specs.Listed.{listedRows, listedReply, listedPushed}
+use Rattle.push_entries.specs.Listed.{listedRefusals, listedReply, listedPushed}
 use Rattle.pushes.proofs.Listed.{listed-count}
 
 -- the row where a record is not whole: never 0
-abbrev partRow : ParameterSet → ℕ
-partRow s = firstRow (setRows p s ++ (row 10 true ∷ []))
+abbrev partRefusal : ParameterSet → ℕ
+partRefusal s = firstRefusal (setRefusals p s ++ (refusal 10 true ∷ []))
 
-part-refused : (s : ParameterSet) → partRow s ≢ 0
-part-refused s e = absurd (omega (arith, row-applies 10 true [] refl, first-none (setRows p s) (row 10 true ∷ []) (set-numbered p s) e .1))
+part-refused : (s : ParameterSet) → partRefusal s ≢ 0
+part-refused s e = absurd (omega (arith, refusal-applies 10 true [] refl, first-none (setRefusals p s) (refusal 10 true ∷ []) (set-numbered p s) e .1))
 
 no-length : (a b c : Bool) → b ≡ false → not (a && (b && c)) ≡ true
 no-length true b c e = rw e
@@ -45,30 +45,30 @@ module _ (s : ParameterSet) (xs ns : List ℕ) where
 
   -- ---- a list that is not of whole records
 
-  abbrev late : List TableRow
-  late = row 11 (not (placesBelow (leafCount p s) rs)) ∷ notWords p (usedWords (s .«node_size») rs ++ xs) ∷ []
+  abbrev late : List Refusal
+  late = refusal 11 (not (placesBelow (leafCount p s) rs)) ∷ notWords p (usedWords (s .«node_size») rs ++ xs) ∷ []
 
-  part-row : length ns % 7 ≢ 0 → firstRow (listedRows p s xs ns) ≡ partRow s
-  unfolding listedRows wholeRecords
+  part-row : length ns % 7 ≢ 0 → firstRefusal (listedRefusals p s xs ns) ≡ partRefusal s
+  unfolding listedRefusals wholeRecords
   part-row o =
-      ap (λ (b : Bool). firstRow (setRows p s ++ (row 10 b ∷ late))) (no-length (has xs (storeWords p s)) (wholeRecords ns) (fewRecords rs) (ne-eqb (length ns % 7) 0 o))
-      ∙ ap firstRow (sym (append-assoc (setRows p s) (row 10 true ∷ []) late))
-      ∙ first-front (setRows p s ++ (row 10 true ∷ [])) late (part-refused s)
+      ap (λ (b : Bool). firstRefusal (setRefusals p s ++ (refusal 10 b ∷ late))) (no-length (has xs (storeWords p s)) (wholeRecords ns) (fewRecords rs) (ne-eqb (length ns % 7) 0 o))
+      ∙ ap firstRefusal (sym (append-assoc (setRefusals p s) (refusal 10 true ∷ []) late))
+      ∙ first-front (setRefusals p s ++ (refusal 10 true ∷ [])) late (part-refused s)
 
-  pub part-is-refused : length ns % 7 ≢ 0 → (k : ℕ) → k ≡ partRow s → (refused k ≡ listedReply p s xs ns) × (xs ≡ listedPushed p s xs ns)
+  pub part-is-refused : length ns % 7 ≢ 0 → (k : ℕ) → k ≡ partRefusal s → (refused k ≡ listedReply p s xs ns) × (xs ≡ listedPushed p s xs ns)
   unfolding listedReply listedPushed
   part-is-refused o k f =
-      refused-equations (listedRows p s xs ns) (pushing p s xs rs .made ∷ []) xs (pushing p s xs rs .store) k (f ∙ sym (part-row o)) (λ z. part-refused s (sym f ∙ z))
+      refused-equations (listedRefusals p s xs ns) (pushing p s xs rs .made ∷ []) xs (pushing p s xs rs .store) k (f ∙ sym (part-row o)) (λ z. part-refused s (sym f ∙ z))
 
   -- ---- a list of whole records
 
-  whole-rows : length ns % 7 ≡ 0 → pushRows p s xs rs ≡ listedRows p s xs ns
-  unfolding pushRows listedRows wholeRecords
+  whole-rows : length ns % 7 ≡ 0 → pushRefusals p s xs rs ≡ listedRefusals p s xs ns
+  unfolding pushRefusals listedRefusals wholeRecords
   whole-rows e = rw (eq-eqb (length ns % 7) 0 e)
 
   pub whole-reply : length ns % 7 ≡ 0 → pushReply p s xs rs ≡ listedReply p s xs ns
   unfolding pushReply listedReply
-  whole-reply e = ap (λ (rows : List TableRow). reply rows (pushing p s xs rs .made ∷ [])) (whole-rows e)
+  whole-reply e = ap (λ (refusals : List Refusal). reply refusals (pushing p s xs rs .made ∷ [])) (whole-rows e)
 
   pub whole-pushed : length ns % 7 ≡ 0 → pushed p s xs rs ≡ listedPushed p s xs ns
   unfolding pushed listedPushed
@@ -82,7 +82,7 @@ module _ (s : ParameterSet) (xs ns : List ℕ) where
     begun-is : pass b xs ≡ begins s xs rs
     begun-is = ap (λ (t : Tally). pass t xs) begun-tally
 
-    pub early-is-refused : length ns % 7 ≡ 0 → b .row ≢ 0 → (refused (b .row) ≡ listedReply p s xs ns) × (xs ≡ listedPushed p s xs ns)
+    pub early-is-refused : length ns % 7 ≡ 0 → b .number ≢ 0 → (refused (b .number) ≡ listedReply p s xs ns) × (xs ≡ listedPushed p s xs ns)
     early-is-refused w o =
         let R = at-once s xs rs b begun-tally o in
         (R .0 ∙ whole-reply w, R .1 ∙ whole-pushed w)

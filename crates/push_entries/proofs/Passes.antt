@@ -11,11 +11,11 @@ use borrow.Author.Tests.{ne-eqb, eqb-true, not-false}
 use Rattle.modular.specs.Arithmetic.{isWord, allWords}
 use Rattle.modular.specs.Goldilocks.{p}
 use Rattle.modular.proofs.Words.{left-true, right-true}
-use Rattle.refusals.specs.Table.{TableRow, row, firstRow, notWords, refused}
-use Rattle.refusals.proofs.Table.{Numbered, row-applies, row-passes, row-none, first-front, first-back, first-none, refused-equations, done-equations}
+use Rattle.refusals.specs.Table.{Refusal, refusal, firstRefusal, notWords, refused}
+use Rattle.refusals.proofs.Table.{Numbered, refusal-applies, refusal-passes, refusal-none, first-front, first-back, first-none, refused-equations, done-equations}
 use Rattle.refusals.proofs.LengthsPlacesAndWords.{all-numbered, twelve, no-twelve}
 use Rattle.parameters.specs.declared.ParameterSet.{ParameterSet}
-use Rattle.parameters.specs.ParameterSet.{setRows}
+use Rattle.parameters.specs.ParameterSet.{setRefusals}
 use Rattle.parameters.proofs.Accepted.{set-numbered}
 use Rattle.merkle.specs.Replacement.{Counted, replaceFrom, pushFrom, push}
 use Rattle.trees.specs.Shapes.{counted}
@@ -25,9 +25,9 @@ use Rattle.change_entries.specs.Replacement.{changedReply}
 use Rattle.pushes.specs.declared.record.Record.{Record}
 use Rattle.pushes.specs.declared.tally.Tally.{Tally}
 use Rattle.pushes.specs.Records.{leafOf, changesOf, placesBelow, usedWords}
-use Rattle.push_entries.specs.Pushes.{pushRows, pushing, pushReply, pushed}
+use Rattle.push_entries.specs.Pushes.{pushRefusals, pushing, pushReply, pushed}
 use Rattle.pushes.specs.Passes.{Pass, pass, Going, testOf, mayWrite, wrote, writeOf, stepOf, eachOf}
-use Rattle.push_entries.specs.Ends.{earlyRows, begun, beginOf, finishOf}
+use Rattle.push_entries.specs.Ends.{earlyRefusals, begun, beginOf, finishOf}
 use Rattle.push_entries.proofs.Early.{early-numbered}
 
 -- ---- tests
@@ -55,7 +55,7 @@ words-of-both (x ∷ xs) ys = ap (λ (b : Bool). isWord p x && b) (words-of-both
 
 -- a tally that no row before 11 turned back
 abbrev clear : ℕ → Bool → Bool → ℕ → Tally
-clear n b w m = record { row = 0; places = n; placed = b; words = w; made = m }
+clear n b w m = record { number = 0; places = n; placed = b; words = w; made = m }
 
 module _ (s : ParameterSet) where
   test-all : (rs : List Record) (n : ℕ) (b w : Bool) (m : ℕ) (store : List ℕ)
@@ -71,11 +71,11 @@ module _ (s : ParameterSet) where
       test-all rs n (b && x) (w && y) m store ∙ (λ i. pass (clear n (places i) (words i) m) store)
 
   -- a tally with a row stays
-  test-stays : (r : Record) (t : Tally) (store : List ℕ) → eqb (t .row) 0 ≡ false → stepOf p s 0 r (pass t store) ≡ pass t store
+  test-stays : (r : Record) (t : Tally) (store : List ℕ) → eqb (t .number) 0 ≡ false → stepOf p s 0 r (pass t store) ≡ pass t store
   unfolding stepOf testOf
   test-stays r t store e = rw e
 
-  test-none : (rs : List Record) (t : Tally) (store : List ℕ) → eqb (t .row) 0 ≡ false → eachOf p s 0 rs (pass t store) ≡ pass t store
+  test-none : (rs : List Record) (t : Tally) (store : List ℕ) → eqb (t .number) 0 ≡ false → eachOf p s 0 rs (pass t store) ≡ pass t store
   unfolding eachOf
   test-none [] t store e = refl
   test-none (r ∷ rs) t store e = ap (eachOf p s 0 rs) (test-stays r t store e) ∙ test-none rs t store e
@@ -110,11 +110,11 @@ module _ (s : ParameterSet) (xs : List ℕ) (ys : List Record) where
   abbrev used : List ℕ
   used = usedWords (s .«node_size») ys
 
-  abbrev early : List TableRow
-  early = earlyRows p s xs (length ys)
+  abbrev early : List Refusal
+  early = earlyRefusals p s xs (length ys)
 
-  abbrev late : List TableRow
-  late = row 11 (not (placesBelow n ys)) ∷ notWords p (used ++ xs) ∷ []
+  abbrev late : List Refusal
+  late = refusal 11 (not (placesBelow n ys)) ∷ notWords p (used ++ xs) ∷ []
 
   -- after the first pass, by the first row of the early ones
   abbrev tested : ℕ → Tally
@@ -125,52 +125,52 @@ module _ (s : ParameterSet) (xs : List ℕ) (ys : List Record) where
   first-pass zero = test-all s ys n true (allWords p xs) 0 xs
   first-pass (suc k) = test-none s ys (begun (suc k) n (allWords p xs)) xs (ne-eqb (suc k) 0 (λ z. absurd (omega (arith, z))))
 
-  rows-are : pushRows p s xs ys ≡ early ++ late
-  unfolding pushRows earlyRows
-  rows-are = sym (append-assoc (setRows p s) (row 10 (not (has xs (storeWords p s) && leb (length ys) (2 ^ 32))) ∷ []) late)
+  rows-are : pushRefusals p s xs ys ≡ early ++ late
+  unfolding pushRefusals earlyRefusals
+  rows-are = sym (append-assoc (setRefusals p s) (refusal 10 (not (has xs (storeWords p s) && leb (length ys) (2 ^ 32))) ∷ []) late)
 
-  rows-numbered : Numbered (pushRows p s xs ys)
-  unfolding pushRows
+  rows-numbered : Numbered (pushRefusals p s xs ys)
+  unfolding pushRefusals
   rows-numbered = all-numbered p _ (set-numbered p s) _ _ _
 
-  late-row : firstRow early ≡ 0 → firstRow (pushRows p s xs ys) ≡ firstRow late
-  late-row e = ap firstRow rows-are ∙ first-back early late (early-numbered s xs (length ys)) e
+  late-row : firstRefusal early ≡ 0 → firstRefusal (pushRefusals p s xs ys) ≡ firstRefusal late
+  late-row e = ap firstRefusal rows-are ∙ first-back early late (early-numbered s xs (length ys)) e
 
   -- what the push claims of the tally and the store at its end
   abbrev Right : Pass → Type 0
   Right u = (changedReply (finishOf (u .tally)) ≡ pushReply p s xs ys) × (u .store ≡ pushed p s xs ys)
 
-  turned-back : (k : ℕ) (t : Tally) → changedReply (finishOf t) ≡ refused k → k ≢ 0 → firstRow (pushRows p s xs ys) ≡ k → Right (pass t xs)
+  turned-back : (k : ℕ) (t : Tally) → changedReply (finishOf t) ≡ refused k → k ≢ 0 → firstRefusal (pushRefusals p s xs ys) ≡ k → Right (pass t xs)
   unfolding pushReply pushed
   turned-back k t f o e =
-      let E = refused-equations (pushRows p s xs ys) (pushing p s xs ys .made ∷ []) xs (pushing p s xs ys .store) k (sym e) o in
+      let E = refused-equations (pushRefusals p s xs ys) (pushing p s xs ys .made ∷ []) xs (pushing p s xs ys .store) k (sym e) o in
       (f ∙ E .0, E .1)
 
-  second-pass : (b w : Bool) → placesBelow n ys ≡ b → allWords p xs && allWords p used ≡ w → firstRow early ≡ 0 → Right (eachOf p s 1 ys (pass (clear n b w 0) xs))
+  second-pass : (b w : Bool) → placesBelow n ys ≡ b → allWords p xs && allWords p used ≡ w → firstRefusal early ≡ 0 → Right (eachOf p s 1 ys (pass (clear n b w 0) xs))
   unfolding mayWrite finishOf changedReply pushReply pushed push
   second-pass true true f g e =
       let words : allWords p (used ++ xs) ≡ true = words-of-both used xs ∙ and-comm (allWords p used) (allWords p xs) ∙ g in
-      let z = late-row e ∙ row-passes 11 (not (placesBelow n ys)) (notWords p (used ++ xs) ∷ []) (ap not f) ∙ no-twelve p (used ++ xs) words in
-      subst Right (sym (write-all s ys n 0 xs f)) (done-equations (pushRows p s xs ys) (pushing p s xs ys .made ∷ []) xs (pushing p s xs ys .store) rows-numbered z)
+      let z = late-row e ∙ refusal-passes 11 (not (placesBelow n ys)) (notWords p (used ++ xs) ∷ []) (ap not f) ∙ no-twelve p (used ++ xs) words in
+      subst Right (sym (write-all s ys n 0 xs f)) (done-equations (pushRefusals p s xs ys) (pushing p s xs ys .made ∷ []) xs (pushing p s xs ys .store) rows-numbered z)
   second-pass true false f g e =
       let words : allWords p (used ++ xs) ≡ false = words-of-both used xs ∙ and-comm (allWords p used) (allWords p xs) ∙ g in
-      let z = late-row e ∙ row-passes 11 (not (placesBelow n ys)) (notWords p (used ++ xs) ∷ []) (ap not f) ∙ twelve p (used ++ xs) words in
+      let z = late-row e ∙ refusal-passes 11 (not (placesBelow n ys)) (notWords p (used ++ xs) ∷ []) (ap not f) ∙ twelve p (used ++ xs) words in
       subst Right (sym (write-none s ys (pass (clear n true false 0) xs) no-words)) (turned-back 12 (clear n true false 0) refl (λ y. absurd (omega (arith, y))) z)
     where
       no-words : (q : ℕ) → mayWrite (clear n true false 0) q ≡ false
       no-words q = refl
   second-pass false w f g e =
-      let z = late-row e ∙ row-applies 11 (not (placesBelow n ys)) (notWords p (used ++ xs) ∷ []) (ap not f) in
+      let z = late-row e ∙ refusal-applies 11 (not (placesBelow n ys)) (notWords p (used ++ xs) ∷ []) (ap not f) in
       subst Right (sym (write-none s ys (pass (clear n false w 0) xs) no-place)) (turned-back 11 (clear n false w 0) refl (λ y. absurd (omega (arith, y))) z)
     where
       no-place : (q : ℕ) → mayWrite (clear n false w 0) q ≡ false
       no-place q = refl
 
-  both-passes : (k : ℕ) → firstRow early ≡ k → Right (eachOf p s 1 ys (pass (tested k) xs))
+  both-passes : (k : ℕ) → firstRefusal early ≡ k → Right (eachOf p s 1 ys (pass (tested k) xs))
   unfolding mayWrite finishOf changedReply
   both-passes zero e = second-pass (placesBelow n ys) (allWords p xs && allWords p used) refl refl e
   both-passes (suc k) e =
-      let z = ap firstRow rows-are ∙ first-front early late (λ y. absurd (omega (arith, e, y))) ∙ e in
+      let z = ap firstRefusal rows-are ∙ first-front early late (λ y. absurd (omega (arith, e, y))) ∙ e in
       subst Right (sym (write-none s ys (pass (tested (suc k)) xs) has-row)) (turned-back (suc k) (tested (suc k)) finished (λ y. absurd (omega (arith, y))) z)
     where
       no : eqb (suc k) 0 ≡ false
@@ -188,50 +188,50 @@ module _ (s : ParameterSet) (xs : List ℕ) (ys : List Record) where
 
   pub pushes : Right (eachOf p s 1 ys (eachOf p s 0 ys begins))
   unfolding beginOf
-  pushes = subst (λ (u : Pass). Right (eachOf p s 1 ys u)) (sym (first-pass (firstRow early))) (both-passes (firstRow early) refl)
+  pushes = subst (λ (u : Pass). Right (eachOf p s 1 ys u)) (sym (first-pass (firstRefusal early))) (both-passes (firstRefusal early) refl)
 
   -- where an early row applies, neither pass changes anything
-  pub at-once : (t : Tally) → t ≡ beginOf p s xs (length ys) → t .row ≢ 0 → (refused (t .row) ≡ pushReply p s xs ys) × (xs ≡ pushed p s xs ys)
+  pub at-once : (t : Tally) → t ≡ beginOf p s xs (length ys) → t .number ≢ 0 → (refused (t .number) ≡ pushReply p s xs ys) × (xs ≡ pushed p s xs ys)
   unfolding mayWrite finishOf changedReply
   at-once t e o =
-      let no : eqb (t .row) 0 ≡ false = ne-eqb (t .row) 0 o in
+      let no : eqb (t .number) 0 ≡ false = ne-eqb (t .number) 0 o in
       let tests : eachOf p s 0 ys (pass t xs) ≡ pass t xs = test-none s ys t xs no in
       let writes : eachOf p s 1 ys (pass t xs) ≡ pass t xs = write-none s ys (pass t xs) (λ q. rw no) in
       let stays = ap (λ (u : Tally). eachOf p s 1 ys (eachOf p s 0 ys (pass u xs))) (sym e) ∙ ap (eachOf p s 1 ys) tests ∙ writes in
-      let said : changedReply (finishOf t) ≡ refused (t .row) = rw no in
+      let said : changedReply (finishOf t) ≡ refused (t .number) = rw no in
       let R = subst Right stays pushes in
       (sym said ∙ R .0, R .1)
 
   -- ---- what the passes presume
 
   module _ (bytes : length ys * 56 < 2 ^ 63) where
-    accepts : (t : Tally) → (t .row ≡ 0 → firstRow early ≡ 0) → (t .row ≡ 0 → t .places ≡ n) → t .made ≡ 0 → Going p s xs t (length ys)
-    unfolding earlyRows
+    accepts : (t : Tally) → (t .number ≡ 0 → firstRefusal early ≡ 0) → (t .number ≡ 0 → t .places ≡ n) → t .made ≡ 0 → Going p s xs t (length ys)
+    unfolding earlyRefusals
     accepts t z places e =
         record {
-          accepted = λ f. first-none (setRows p s) _ (set-numbered p s) (z f) .0;
+          accepted = λ f. first-none (setRefusals p s) _ (set-numbered p s) (z f) .0;
           whole = λ f.
-              let lengths = row-none 9 _ [] (first-none (setRows p s) _ (set-numbered p s) (z f) .1) .0 in
+              let lengths = refusal-none 9 _ [] (first-none (setRefusals p s) _ (set-numbered p s) (z f) .1) .0 in
               eqb-true (length xs) (storeWords p s) (left-true (has xs (storeWords p s)) (leb (length ys) (2 ^ 32)) (not-false _ lengths));
           places = places;
           counts = omega (arith, bytes, e);
         }
 
-    begun-going : (k : ℕ) → firstRow early ≡ k → Going p s xs (begun k n (allWords p xs)) (length ys)
+    begun-going : (k : ℕ) → firstRefusal early ≡ k → Going p s xs (begun k n (allWords p xs)) (length ys)
     begun-going zero e = accepts (begun 0 n (allWords p xs)) (λ f. e) (λ f. refl) refl
     begun-going (suc k) e = accepts (begun (suc k) n (allWords p xs)) (λ f. absurd (omega (arith, f))) (λ f. absurd (omega (arith, f))) refl
 
-    tested-going : (k : ℕ) → firstRow early ≡ k → Going p s xs (tested k) (length ys)
+    tested-going : (k : ℕ) → firstRefusal early ≡ k → Going p s xs (tested k) (length ys)
     tested-going zero e = accepts (tested 0) (λ f. e) (λ f. refl) refl
     tested-going (suc k) e = begun-going (suc k) e
 
     pub first-asks : Going p s xs (beginOf p s xs (length ys)) (length ys)
     unfolding beginOf
-    first-asks = begun-going (firstRow early) refl
+    first-asks = begun-going (firstRefusal early) refl
 
     pub second-asks : (t : Tally) (zs : List ℕ) → t ≡ eachOf p s 0 ys begins .tally → zs ≡ eachOf p s 0 ys begins .store → Going p s zs t (length ys)
     unfolding beginOf
     second-asks t zs f g =
-        let k : ℕ = firstRow early in
+        let k : ℕ = firstRefusal early in
         let e = first-pass k in
         subst (λ (u : Pass). Going p s (u .store) (u .tally) (length ys)) (λ i. pass (sym (f ∙ ap (λ (u : Pass). u .tally) e) i) (sym (g ∙ ap (λ (u : Pass). u .store) e) i)) (tested-going k refl)

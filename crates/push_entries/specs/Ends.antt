@@ -5,27 +5,27 @@ use mathlib.Core.List.{List, [], _∷_, _++_}
 use Prim.Native.Nat.{ℕ, zero, suc, _^_}
 use lib.Dec.{eqb, leb}
 use Rattle.modular.specs.Arithmetic.{allWords}
-use Rattle.refusals.specs.Table.{TableRow, row, firstRow}
+use Rattle.refusals.specs.Table.{Refusal, refusal, firstRefusal}
 use Rattle.parameters.specs.declared.ParameterSet.{ParameterSet}
-use Rattle.parameters.specs.ParameterSet.{setRows}
+use Rattle.parameters.specs.ParameterSet.{setRefusals}
 use Rattle.trees.specs.SetTrees.{leafCount, storeWords}
 use Rattle.tree_entries.specs.Trees.{has}
 use Rattle.change_entries.specs.declared.changed.Changed.{Changed}
 use Rattle.change_entries.specs.declared.changed.Changed.the-variants.{Compressions, Refused}
 use Rattle.pushes.specs.declared.tally.Tally.{Tally}
 
--- rows 1 to 10, for n records
-unfoldable pub earlyRows : ℕ → ParameterSet → List ℕ → ℕ → List TableRow
-earlyRows p s store n = setRows p s ++ (row 10 (not (has store (storeWords p s) && leb n (2 ^ 32))) ∷ [])
+-- refusals 1 to 10, for n records
+unfoldable pub earlyRefusals : ℕ → ParameterSet → List ℕ → ℕ → List Refusal
+earlyRefusals p s store n = setRefusals p s ++ (refusal 10 (not (has store (storeWords p s) && leb n (2 ^ 32))) ∷ [])
 
--- what a push begins with: the first of these rows, or 0; then the places and whether the store is words
+-- what a push begins with: the first of these refusals, or 0; then the places and whether the store is words
 abbrev pub begun : ℕ → ℕ → Bool → Tally
-begun zero n w = record { row = 0; places = n; placed = true; words = w; made = 0 }
-begun (suc r) n w = record { row = suc r; places = 0; placed = true; words = true; made = 0 }
+begun zero n w = record { number = 0; places = n; placed = true; words = w; made = 0 }
+begun (suc r) n w = record { number = suc r; places = 0; placed = true; words = true; made = 0 }
 
 unfoldable pub beginOf : ℕ → ParameterSet → List ℕ → ℕ → Tally
-beginOf p s store n = begun (firstRow (earlyRows p s store n)) (leafCount p s) (allWords p store)
+beginOf p s store n = begun (firstRefusal (earlyRefusals p s store n)) (leafCount p s) (allWords p store)
 
 -- the lowest row that applies, or the count
 unfoldable pub finishOf : Tally → Changed
-finishOf t = cond (eqb (t .row) 0) (cond (t .placed) (cond (t .words) (Compressions (t .made)) (Refused 12)) (Refused 11)) (Refused (t .row))
+finishOf t = cond (eqb (t .number) 0) (cond (t .placed) (cond (t .words) (Compressions (t .made)) (Refused 12)) (Refused 11)) (Refused (t .number))

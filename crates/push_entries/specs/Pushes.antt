@@ -4,9 +4,9 @@ use mathlib.Core.List.{List, [], _∷_, _++_}
 use Prim.Native.Nat.{ℕ, _^_}
 use lib.Dec.{leb}
 use lib.ListN.{length}
-use Rattle.refusals.specs.Table.{TableRow, row, notWords, Reply, reply, after}
+use Rattle.refusals.specs.Table.{Refusal, refusal, notWords, Reply, reply, after}
 use Rattle.parameters.specs.declared.ParameterSet.{ParameterSet}
-use Rattle.parameters.specs.ParameterSet.{setRows}
+use Rattle.parameters.specs.ParameterSet.{setRefusals}
 use Rattle.merkle.specs.Replacement.{Counted, push}
 use Rattle.trees.specs.SetTrees.{treeOf, leafCount, storeWords}
 use Rattle.tree_entries.specs.Trees.{has}
@@ -18,11 +18,11 @@ abbrev pub fewRecords : List Record → Bool
 fewRecords rs = leb (length rs) (2 ^ 32)
 
 -- Row 12 covers "for a push every used record word and the whole store".
-unfoldable pub pushRows : ℕ → ParameterSet → List ℕ → List Record → List TableRow
-pushRows p s store rs =
-    setRows p s
-    ++ (row 10 (not (has store (storeWords p s) && fewRecords rs))
-    ∷ row 11 (not (placesBelow (leafCount p s) rs))
+unfoldable pub pushRefusals : ℕ → ParameterSet → List ℕ → List Record → List Refusal
+pushRefusals p s store rs =
+    setRefusals p s
+    ++ (refusal 10 (not (has store (storeWords p s) && fewRecords rs))
+    ∷ refusal 11 (not (placesBelow (leafCount p s) rs))
     ∷ notWords p (usedWords (s .«node_size») rs ++ store) ∷ [])
 
 -- "Records are done in order"; "hand the count on from call to call, and report the last"
@@ -30,7 +30,7 @@ abbrev pub pushing : ℕ → ParameterSet → List ℕ → List Record → Count
 pushing p s store rs = push (treeOf p s) (s .height) (changesOf (s .«node_size») rs) store
 
 unfoldable pub pushReply : ℕ → ParameterSet → List ℕ → List Record → Reply
-pushReply p s store rs = reply (pushRows p s store rs) (pushing p s store rs .made ∷ [])
+pushReply p s store rs = reply (pushRefusals p s store rs) (pushing p s store rs .made ∷ [])
 
 unfoldable pub pushed : ℕ → ParameterSet → List ℕ → List Record → List ℕ
 pushed p s store rs = after (pushReply p s store rs) store (pushing p s store rs .store)

@@ -3,8 +3,8 @@ ghost use mathlib.Core.Path.{_≡_};
 ghost use mathlib.Core.Bool.{true};
 ghost use mathlib.Core.List.{[], _∷_, _++_};
 ghost use Rattle.modular.specs.Goldilocks.{p};
-ghost use Rattle.refusals.specs.Table.{firstRow, row};
-ghost use Rattle.parameters.specs.ParameterSet.{setRows};
+ghost use Rattle.refusals.specs.Table.{firstRefusal, refusal};
+ghost use Rattle.parameters.specs.ParameterSet.{setRefusals};
 ghost use Rattle.push_entries.specs.Ends.{beginOf, finishOf};
 use change_entries::Changed;
 use parameters::ParameterSet;
@@ -12,11 +12,11 @@ use pushes::tally::Tally;
 use trees::sets;
 
 // A refusal by one of rows 1 to 10.
-fn turned_back(row: u8) -> Tally
-    ensures { λ r. ⌜ r ≡ record { row = row; places = 0; placed = true; words = true; made = 0 } ⌝ }
+fn turned_back(number: u8) -> Tally
+    ensures { λ r. ⌜ r ≡ record { number = number; places = 0; placed = true; words = true; made = 0 } ⌝ }
 {
     Tally {
-        row: row,
+        number: number,
         places: 0,
         placed: true,
         words: true,
@@ -28,9 +28,9 @@ fn turned_back(row: u8) -> Tally
 pub fn begin(set: ParameterSet, store: &[u64], count: usize) -> Tally
     ensures { λ r. ⌜ r ≡ beginOf p set (now (store .entry)) count ⌝ }
 {
-    let row = state_entries::row_of(set);
-    if row != 0 {
-        return turned_back(row);
+    let number = state_entries::refusal_of(set);
+    if number != 0 {
+        return turned_back(number);
     }
     if store.len() != sets::store_words(set) {
         return turned_back(10);
@@ -39,7 +39,7 @@ pub fn begin(set: ParameterSet, store: &[u64], count: usize) -> Tally
         return turned_back(10);
     }
     Tally {
-        row: 0,
+        number: 0,
         places: sets::places(set) as u64,
         placed: true,
         words: parameters::all_words(store),
@@ -48,12 +48,12 @@ pub fn begin(set: ParameterSet, store: &[u64], count: usize) -> Tally
 }
 
 // The row of a list that is not of whole records: the set's, or else 10.
-pub fn row_of_part(set: ParameterSet) -> u8
-    ensures { λ r. ⌜ r ≡ firstRow (setRows p set ++ (row 10 true ∷ [])) ⌝ }
+pub fn refusal_of_part(set: ParameterSet) -> u8
+    ensures { λ r. ⌜ r ≡ firstRefusal (setRefusals p set ++ (refusal 10 true ∷ [])) ⌝ }
 {
-    let row = state_entries::row_of(set);
-    if row != 0 {
-        return row;
+    let number = state_entries::refusal_of(set);
+    if number != 0 {
+        return number;
     }
     10
 }
@@ -62,8 +62,8 @@ pub fn row_of_part(set: ParameterSet) -> u8
 pub fn finish(tally: Tally) -> Changed
     ensures { λ r. ⌜ r ≡ finishOf tally ⌝ }
 {
-    if tally.row != 0 {
-        return Changed::Refused(tally.row);
+    if tally.number != 0 {
+        return Changed::Refused(tally.number);
     }
     if !tally.placed {
         return Changed::Refused(11);

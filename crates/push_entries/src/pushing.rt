@@ -27,11 +27,11 @@ pub fn push_listed(set: ParameterSet, store: &mut [u64], numbers: &[u64]) -> Cha
         × (now (store .exit) ≡ listedPushed p set (now (store .entry)) (now (numbers .entry))) ⌝ }
 {
     if numbers.len() % 7 != 0 {
-        return Changed::Refused(ends::row_of_part(set));
+        return Changed::Refused(ends::refusal_of_part(set));
     }
     let begun = ends::begin(set, store, numbers.len() / 7);
-    if begun.row != 0 {
-        return Changed::Refused(begun.row);
+    if begun.number != 0 {
+        return Changed::Refused(begun.number);
     }
     let tested = passes::each_listed(set, store, numbers, passes::TEST, begun);
     let written = passes::each_listed(set, store, numbers, passes::WRITE, tested);

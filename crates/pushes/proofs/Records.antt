@@ -11,9 +11,9 @@ use borrow.Author.Tests.{eqb-true, ltb-true}
 use Rattle.modular.specs.Goldilocks.{p}
 use Rattle.modular.specs.Arithmetic.{allWords}
 use Rattle.modular.proofs.Words.{left-true, right-true}
-use Rattle.refusals.specs.Table.{firstRow}
+use Rattle.refusals.specs.Table.{firstRefusal}
 use Rattle.parameters.specs.declared.ParameterSet.{ParameterSet}
-use Rattle.parameters.specs.ParameterSet.{setRows}
+use Rattle.parameters.specs.ParameterSet.{setRefusals}
 use Rattle.merkle.specs.Replacement.{Counted, replaceFrom}
 use Rattle.merkle.proofs.Replacement.{replace-made}
 use Rattle.trees.specs.Shapes.{counted}
@@ -25,50 +25,50 @@ use Rattle.pushes.specs.Records.{leafOf}
 use Rattle.pushes.specs.Passes.{Pass, pass, Going, testOf, mayWrite, wrote, writeOf, stepOf}
 
 -- a leaf is among a record's six words
-pub leaf-in-record : (s : ParameterSet) → firstRow (setRows p s) ≡ 0 → s .«node_size» ≤ 6
+pub leaf-in-record : (s : ParameterSet) → firstRefusal (setRefusals p s) ≡ 0 → s .«node_size» ≤ 6
 leaf-in-record s none =
     omega (arith, mul-le-mul-right (s .«node_size») (tree-of.valid-numbers s none .several), tree-of.width-is s none, tree-of.width-fits s none)
 
 -- ---- a write that is allowed
 
-pub may-no-row : (t : Tally) (q : ℕ) → mayWrite t q ≡ true → t .row ≡ 0
+pub may-no-row : (t : Tally) (q : ℕ) → mayWrite t q ≡ true → t .number ≡ 0
 unfolding mayWrite
-may-no-row t q e = eqb-true (t .row) 0 (left-true (eqb (t .row) 0) (t .placed && (t .words && ltb q (t .places))) e)
+may-no-row t q e = eqb-true (t .number) 0 (left-true (eqb (t .number) 0) (t .placed && (t .words && ltb q (t .places))) e)
 
 pub may-inside : (t : Tally) (q : ℕ) → mayWrite t q ≡ true → q < t .places
 unfolding mayWrite
 may-inside t q e =
-    ltb-true q (t .places) (right-true (t .words) _ (right-true (t .placed) _ (right-true (eqb (t .row) 0) (t .placed && (t .words && ltb q (t .places))) e)))
+    ltb-true q (t .places) (right-true (t .words) _ (right-true (t .placed) _ (right-true (eqb (t .number) 0) (t .placed && (t .words && ltb q (t .places))) e)))
 
 -- ---- a step
 
 -- what a step keeps of a tally: the row, the places, and room for the count
 pub record Follows (t t′ : Tally) : Type 0 where
-  pub row : t′ .row ≡ t .row
+  pub number : t′ .number ≡ t .number
   pub places : t′ .places ≡ t .places
   pub made : t′ .made ≤ t .made + 32
 
 same : (t : Tally) → Follows t t
-same t = record { row = refl; places = refl; made = omega arith }
+same t = record { number = refl; places = refl; made = omega arith }
 
 test-follows : (s : ParameterSet) (r : Record) (t : Tally) → Follows t (testOf p s r t)
 unfolding testOf
-test-follows s r t = go (eqb (t .row) 0) refl
+test-follows s r t = go (eqb (t .number) 0) refl
   where
     next : Tally
     next = record {
-      row = 0;
+      number = 0;
       places = t .places;
       placed = t .placed && ltb (r .place) (t .places);
       words = t .words && allWords p (leafOf (s .«node_size») r);
       made = t .made;
     }
 
-    go : (b : Bool) → eqb (t .row) 0 ≡ b → Follows t (cond b next t)
-    go true e = record { row = sym (eqb-true (t .row) 0 e); places = refl; made = omega arith }
+    go : (b : Bool) → eqb (t .number) 0 ≡ b → Follows t (cond b next t)
+    go true e = record { number = sym (eqb-true (t .number) 0 e); places = refl; made = omega arith }
     go false e = same t
 
-write-follows : (s : ParameterSet) (r : Record) (u : Pass) → (u .tally .row ≡ 0 → firstRow (setRows p s) ≡ 0) → Follows (u .tally) (writeOf p s r u .tally)
+write-follows : (s : ParameterSet) (r : Record) (u : Pass) → (u .tally .number ≡ 0 → firstRefusal (setRefusals p s) ≡ 0) → Follows (u .tally) (writeOf p s r u .tally)
 unfolding writeOf
 write-follows s r u accepted = go (mayWrite (u .tally) (r .place)) refl
   where
@@ -80,10 +80,10 @@ write-follows s r u accepted = go (mayWrite (u .tally) (r .place)) refl
         let none = accepted (may-no-row (u .tally) (r .place) e) in
         let counts : done .made ≡ u .tally .made + s .height =
         replace-made (treeOf p s) (tree-of.shape-regular s none) (s .height) (r .place) (leafOf (s .«node_size») r) (counted (u .store) (u .tally .made)) in
-        record { row = refl; places = refl; made = omega (arith, counts, tree-of.valid-numbers s none .low) }
+        record { number = refl; places = refl; made = omega (arith, counts, tree-of.valid-numbers s none .low) }
     go false e = same (u .tally)
 
-step-follows : (s : ParameterSet) (phase : ℕ) (r : Record) (u : Pass) → (u .tally .row ≡ 0 → firstRow (setRows p s) ≡ 0) → Follows (u .tally) (stepOf p s phase r u .tally)
+step-follows : (s : ParameterSet) (phase : ℕ) (r : Record) (u : Pass) → (u .tally .number ≡ 0 → firstRefusal (setRefusals p s) ≡ 0) → Follows (u .tally) (stepOf p s phase r u .tally)
 unfolding stepOf
 step-follows s phase r u accepted = go (eqb phase 0)
   where
@@ -97,8 +97,8 @@ pub goes-on : (s : ParameterSet) (phase : ℕ) (r : Record) (u : Pass) (store : 
 goes-on s phase r u store n e G =
     let F = step-follows s phase r u (G .accepted) in
     record {
-      accepted = λ z. G .accepted (sym (F .row) ∙ z);
-      whole = λ z. e ∙ G .whole (sym (F .row) ∙ z);
-      places = λ z. F .places ∙ G .places (sym (F .row) ∙ z);
+      accepted = λ z. G .accepted (sym (F .number) ∙ z);
+      whole = λ z. e ∙ G .whole (sym (F .number) ∙ z);
+      places = λ z. F .places ∙ G .places (sym (F .number) ∙ z);
       counts = omega (arith, F .made, G .counts);
     }

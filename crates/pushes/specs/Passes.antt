@@ -7,9 +7,9 @@ use Prim.Native.Nat.{ℕ, _+_, _*_, _^_, _<_}
 use lib.Dec.{eqb, ltb}
 use lib.ListN.{length}
 use Rattle.modular.specs.Arithmetic.{allWords}
-use Rattle.refusals.specs.Table.{firstRow}
+use Rattle.refusals.specs.Table.{firstRefusal}
 use Rattle.parameters.specs.declared.ParameterSet.{ParameterSet}
-use Rattle.parameters.specs.ParameterSet.{setRows}
+use Rattle.parameters.specs.ParameterSet.{setRefusals}
 use Rattle.merkle.specs.Replacement.{Counted, replaceFrom}
 use Rattle.trees.specs.Shapes.{counted}
 use Rattle.trees.specs.SetTrees.{treeOf, leafCount, storeWords}
@@ -28,9 +28,9 @@ pass t store = record { tally = t; store = store }
 -- a record tested, where no row before 11 applies
 unfoldable pub testOf : ℕ → ParameterSet → Record → Tally → Tally
 testOf p s r t =
-    cond (eqb (t .row) 0)
+    cond (eqb (t .number) 0)
     (record {
-      row = 0;
+      number = 0;
       places = t .places;
       placed = t .placed && ltb (r .place) (t .places);
       words = t .words && allWords p (leafOf (s .«node_size») r);
@@ -40,10 +40,10 @@ testOf p s r t =
 
 -- a record written, where nothing is refused
 unfoldable pub mayWrite : Tally → ℕ → Bool
-mayWrite t q = eqb (t .row) 0 && (t .placed && (t .words && ltb q (t .places)))
+mayWrite t q = eqb (t .number) 0 && (t .placed && (t .words && ltb q (t .places)))
 
 abbrev pub counting : Tally → ℕ → Tally
-counting t n = record { row = t .row; places = t .places; placed = t .placed; words = t .words; made = n }
+counting t n = record { number = t .number; places = t .places; placed = t .placed; words = t .words; made = n }
 
 abbrev pub wrote : Tally → Counted → Pass
 wrote t c = pass (counting t (c .made)) (c .store)
@@ -65,7 +65,7 @@ eachOf p s phase (r ∷ rs) u = eachOf p s phase rs (stepOf p s phase r u)
 
 -- What a pass over n records presumes: the set and the store's length passed where the tally has no row, and the count has room.
 pub record Going (p : ℕ) (s : ParameterSet) (store : List ℕ) (t : Tally) (n : ℕ) : Type 0 where
-  pub accepted : t .row ≡ 0 → firstRow (setRows p s) ≡ 0
-  pub whole : t .row ≡ 0 → length store ≡ storeWords p s
-  pub places : t .row ≡ 0 → t .places ≡ leafCount p s
+  pub accepted : t .number ≡ 0 → firstRefusal (setRefusals p s) ≡ 0
+  pub whole : t .number ≡ 0 → length store ≡ storeWords p s
+  pub places : t .number ≡ 0 → t .places ≡ leafCount p s
   pub counts : t .made + 32 * n < 2 ^ 64

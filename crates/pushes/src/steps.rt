@@ -5,8 +5,8 @@ ghost use Prim.Native.Nat.{_+_, _≤_, _<_, _^_};
 ghost use lib.ListN.{length, take};
 ghost use Rattle.modular.specs.Arithmetic.{allWords};
 ghost use Rattle.modular.specs.Goldilocks.{p};
-ghost use Rattle.refusals.specs.Table.{firstRow};
-ghost use Rattle.parameters.specs.ParameterSet.{setRows};
+ghost use Rattle.refusals.specs.Table.{firstRefusal};
+ghost use Rattle.parameters.specs.ParameterSet.{setRefusals};
 ghost use Rattle.merkle.specs.Replacement.{replaceFrom};
 ghost use Rattle.trees.specs.Shapes.{counted};
 ghost use Rattle.trees.specs.SetTrees.{treeOf, leafCount, storeWords};
@@ -36,15 +36,15 @@ fn leaf_is_words(words: [u64; 6], node_size: u64) -> bool
 
 // The first pass: a record's place and leaf are tested.
 fn test_record(set: ParameterSet, tally: Tally, item: Record) -> Tally
-    requires { ⌜ (tally .row ≡ 0 → firstRow (setRows p set) ≡ 0) ⌝ }
+    requires { ⌜ (tally .number ≡ 0 → firstRefusal (setRefusals p set) ≡ 0) ⌝ }
     ensures { λ r. ⌜ r ≡ testOf p set item tally ⌝ }
 {
-    if tally.row != 0 {
+    if tally.number != 0 {
         return tally;
     }
     let words = item.words;
     Tally {
-        row: 0,
+        number: 0,
         places: tally.places,
         placed: both(tally.placed, item.place < tally.places),
         words: both(tally.words, leaf_is_words(words, set.node_size)),
@@ -57,14 +57,14 @@ fn may_write(tally: Tally, place: u64) -> bool
     ensures { λ r. ⌜ r ≡ mayWrite tally place ⌝ }
 {
     both(
-        tally.row == 0,
+        tally.number == 0,
         both(tally.placed, both(tally.words, place < tally.places)),
     )
 }
 
 // The single replacement of a record: the count that is handed in goes on.
 fn write_record(set: ParameterSet, store: &mut [u64], place: u64, words: [u64; 6], made: u64) -> u64
-    requires { ⌜ (firstRow (setRows p set) ≡ 0) × (length (now store) ≡ storeWords p set) × (place < leafCount p set) × (made + 32 < 2 ^ 64) ⌝ }
+    requires { ⌜ (firstRefusal (setRefusals p set) ≡ 0) × (length (now store) ≡ storeWords p set) × (place < leafCount p set) × (made + 32 < 2 ^ 64) ⌝ }
     ensures { λ r. ⌜ (r ≡ replaceFrom (treeOf p set) (set .height) place (take (set .«node_size») words) (counted (now (store .entry)) made) .made)
         × (now (store .exit) ≡ replaceFrom (treeOf p set) (set .height) place (take (set .«node_size») words) (counted (now (store .entry)) made) .store) ⌝ }
 {
@@ -98,7 +98,7 @@ pub fn step(set: ParameterSet, store: &mut [u64], phase: u64, tally: Tally, item
     let words = item.words;
     let made = write_record(set, store, item.place, words, tally.made);
     Tally {
-        row: tally.row,
+        number: tally.number,
         places: tally.places,
         placed: tally.placed,
         words: tally.words,

@@ -1,2 +1,2 @@
 -- The laws of the calls.
-pub mod Rows
+pub mod Refusals

@@ -6,8 +6,8 @@ use Prim.Native.Nat.{ℕ}
 use lib.Dec.{lit<}
 use borrow.Author.Tests.{not-false}
 use Rattle.modular.specs.Arithmetic.{allWords}
-use Rattle.refusals.specs.Table.{TableRow, row, notWords, firstRow}
-use Rattle.refusals.proofs.Table.{Numbered, none, next, numbered-append, row-applies, row-passes, row-none, first-back, first-none}
+use Rattle.refusals.specs.Table.{Refusal, refusal, notWords, firstRefusal}
+use Rattle.refusals.proofs.Table.{Numbered, none, next, numbered-append, refusal-applies, refusal-passes, refusal-none, first-back, first-none}
 
 -- of two lengths one is wrong, or both are right
 pub first-bad : (a b : Bool) → a ≡ false → not (a && b) ≡ true
@@ -28,35 +28,35 @@ and-true-left a b e = rw e
 pub and-false-right : (a b : Bool) → a ≡ true → b ≡ false → (a && b) ≡ false
 and-false-right a b e f = rw (e, f)
 
-module _ (p : ℕ) (rows : List TableRow) (N : Numbered rows) (badLength : Bool) (xs : List ℕ) where
-  abbrev pub all : List TableRow
-  all = rows ++ (row 10 badLength ∷ notWords p xs ∷ [])
+module _ (p : ℕ) (refusals : List Refusal) (N : Numbered refusals) (badLength : Bool) (xs : List ℕ) where
+  abbrev pub all : List Refusal
+  all = refusals ++ (refusal 10 badLength ∷ notWords p xs ∷ [])
 
   pub all-numbered : Numbered all
   unfolding notWords
   all-numbered = numbered-append N (next (lit< tt) (next (lit< tt) none))
 
-  pub at-10 : firstRow rows ≡ 0 → badLength ≡ true → firstRow all ≡ 10
-  at-10 z e = first-back rows _ N z ∙ row-applies 10 badLength _ e
+  pub at-10 : firstRefusal refusals ≡ 0 → badLength ≡ true → firstRefusal all ≡ 10
+  at-10 z e = first-back refusals _ N z ∙ refusal-applies 10 badLength _ e
 
-  pub at-12 : firstRow rows ≡ 0 → badLength ≡ false → allWords p xs ≡ false → firstRow all ≡ 12
+  pub at-12 : firstRefusal refusals ≡ 0 → badLength ≡ false → allWords p xs ≡ false → firstRefusal all ≡ 12
   unfolding notWords
-  at-12 z e w = first-back rows _ N z ∙ row-passes 10 badLength _ e ∙ row-applies 12 (not (allWords p xs)) [] (ap not w)
+  at-12 z e w = first-back refusals _ N z ∙ refusal-passes 10 badLength _ e ∙ refusal-applies 12 (not (allWords p xs)) [] (ap not w)
 
-  pub at-none : firstRow rows ≡ 0 → badLength ≡ false → allWords p xs ≡ true → firstRow all ≡ 0
-  unfolding notWords firstRow
-  at-none z e w = first-back rows _ N z ∙ row-passes 10 badLength (notWords p xs ∷ []) e ∙ row-passes 12 (not (allWords p xs)) [] (ap not w)
+  pub at-none : firstRefusal refusals ≡ 0 → badLength ≡ false → allWords p xs ≡ true → firstRefusal all ≡ 0
+  unfolding notWords firstRefusal
+  at-none z e w = first-back refusals _ N z ∙ refusal-passes 10 badLength (notWords p xs ∷ []) e ∙ refusal-passes 12 (not (allWords p xs)) [] (ap not w)
 
   -- what holds where none applies
   pub record Passed : Type 0 where
-    pub before : firstRow rows ≡ 0
+    pub before : firstRefusal refusals ≡ 0
     pub lengths : badLength ≡ false
     pub words : allWords p xs ≡ true
 
-  pub passed : firstRow all ≡ 0 → Passed
+  pub passed : firstRefusal all ≡ 0 → Passed
   unfolding notWords
   passed e =
-      let front = first-none rows (row 10 badLength ∷ notWords p xs ∷ []) N e in
-      let lengths = row-none 9 badLength _ (front .1) in
-      let words = row-none 11 (not (allWords p xs)) _ (lengths .1) in
+      let front = first-none refusals (refusal 10 badLength ∷ notWords p xs ∷ []) N e in
+      let lengths = refusal-none 9 badLength _ (front .1) in
+      let words = refusal-none 11 (not (allWords p xs)) _ (lengths .1) in
       record { before = front .0; lengths = lengths .0; words = not-false (allWords p xs) (words .0) }

@@ -7,51 +7,51 @@ use lib.Dec.{lit<}
 use borrow.Author.Tests.{not-false}
 use Rattle.modular.specs.Arithmetic.{allWords}
 use Rattle.modular.proofs.Words.{words-append, words-left, words-right}
-use Rattle.refusals.specs.Table.{TableRow, row, notWords, firstRow}
-use Rattle.refusals.proofs.Table.{Numbered, none, next, numbered-append, row-applies, row-passes, row-none, first-back, first-none}
+use Rattle.refusals.specs.Table.{Refusal, refusal, notWords, firstRefusal}
+use Rattle.refusals.proofs.Table.{Numbered, none, next, numbered-append, refusal-applies, refusal-passes, refusal-none, first-back, first-none}
 
-module _ (p : ℕ) (rows : List TableRow) (N : Numbered rows) (badLength badPlace : Bool) (xs : List ℕ) where
-  abbrev pub all : List TableRow
-  all = rows ++ (row 10 badLength ∷ row 11 badPlace ∷ notWords p xs ∷ [])
+module _ (p : ℕ) (refusals : List Refusal) (N : Numbered refusals) (badLength badPlace : Bool) (xs : List ℕ) where
+  abbrev pub all : List Refusal
+  all = refusals ++ (refusal 10 badLength ∷ refusal 11 badPlace ∷ notWords p xs ∷ [])
 
   pub all-numbered : Numbered all
   unfolding notWords
   all-numbered = numbered-append N (next (lit< tt) (next (lit< tt) (next (lit< tt) none)))
 
-  pub at-10 : firstRow rows ≡ 0 → badLength ≡ true → firstRow all ≡ 10
-  at-10 z e = first-back rows _ N z ∙ row-applies 10 badLength _ e
+  pub at-10 : firstRefusal refusals ≡ 0 → badLength ≡ true → firstRefusal all ≡ 10
+  at-10 z e = first-back refusals _ N z ∙ refusal-applies 10 badLength _ e
 
-  pub at-11 : firstRow rows ≡ 0 → badLength ≡ false → badPlace ≡ true → firstRow all ≡ 11
-  at-11 z e f = first-back rows _ N z ∙ row-passes 10 badLength _ e ∙ row-applies 11 badPlace _ f
+  pub at-11 : firstRefusal refusals ≡ 0 → badLength ≡ false → badPlace ≡ true → firstRefusal all ≡ 11
+  at-11 z e f = first-back refusals _ N z ∙ refusal-passes 10 badLength _ e ∙ refusal-applies 11 badPlace _ f
 
   -- where lengths and place are right, 12 decides
-  pub at-words : firstRow rows ≡ 0 → badLength ≡ false → badPlace ≡ false → firstRow all ≡ firstRow (notWords p xs ∷ [])
-  at-words z e f = first-back rows _ N z ∙ row-passes 10 badLength _ e ∙ row-passes 11 badPlace _ f
+  pub at-words : firstRefusal refusals ≡ 0 → badLength ≡ false → badPlace ≡ false → firstRefusal all ≡ firstRefusal (notWords p xs ∷ [])
+  at-words z e f = first-back refusals _ N z ∙ refusal-passes 10 badLength _ e ∙ refusal-passes 11 badPlace _ f
 
   -- what holds where none applies
   pub record Passed : Type 0 where
-    pub before : firstRow rows ≡ 0
+    pub before : firstRefusal refusals ≡ 0
     pub lengths : badLength ≡ false
     pub place : badPlace ≡ false
     pub words : allWords p xs ≡ true
 
-  pub passed : firstRow all ≡ 0 → Passed
+  pub passed : firstRefusal all ≡ 0 → Passed
   unfolding notWords
   passed e =
-      let front = first-none rows (row 10 badLength ∷ row 11 badPlace ∷ notWords p xs ∷ []) N e in
-      let lengths = row-none 9 badLength _ (front .1) in
-      let place = row-none 10 badPlace _ (lengths .1) in
-      let words = row-none 11 (not (allWords p xs)) _ (place .1) in
+      let front = first-none refusals (refusal 10 badLength ∷ refusal 11 badPlace ∷ notWords p xs ∷ []) N e in
+      let lengths = refusal-none 9 badLength _ (front .1) in
+      let place = refusal-none 10 badPlace _ (lengths .1) in
+      let words = refusal-none 11 (not (allWords p xs)) _ (place .1) in
       record { before = front .0; lengths = lengths .0; place = place .0; words = not-false (allWords p xs) (words .0) }
 
 -- 12 alone
-pub twelve : (p : ℕ) (xs : List ℕ) → allWords p xs ≡ false → firstRow (notWords p xs ∷ []) ≡ 12
+pub twelve : (p : ℕ) (xs : List ℕ) → allWords p xs ≡ false → firstRefusal (notWords p xs ∷ []) ≡ 12
 unfolding notWords
-twelve p xs w = row-applies 12 (not (allWords p xs)) [] (ap not w)
+twelve p xs w = refusal-applies 12 (not (allWords p xs)) [] (ap not w)
 
-pub no-twelve : (p : ℕ) (xs : List ℕ) → allWords p xs ≡ true → firstRow (notWords p xs ∷ []) ≡ 0
-unfolding notWords firstRow
-no-twelve p xs w = row-passes 12 (not (allWords p xs)) [] (ap not w)
+pub no-twelve : (p : ℕ) (xs : List ℕ) → allWords p xs ≡ true → firstRefusal (notWords p xs ∷ []) ≡ 0
+unfolding notWords firstRefusal
+no-twelve p xs w = refusal-passes 12 (not (allWords p xs)) [] (ap not w)
 
 -- a list with a part that is no list of words is none
 pub left-not-words : (p : ℕ) (xs ys : List ℕ) → allWords p xs ≡ false → allWords p (xs ++ ys) ≡ false

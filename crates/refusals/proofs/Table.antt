@@ -1,4 +1,4 @@
--- A row that applies is the reply, and one that does not leaves it to the rows below.
+-- A row that applies is the reply, and one that does not leaves it to the refusals below.
 use mathlib.Core.Path.{_≡_, refl, sym, ap, _∙_}
 use mathlib.Core.Logic.{_≢_}
 use mathlib.Core.Bool.{Bool, true, false, cond, not}
@@ -6,102 +6,102 @@ use mathlib.Core.List.{List, [], _∷_, _++_}
 use Prim.Native.Nat.{ℕ, suc, _<_}
 use native.Mathlib.Omega.{arith}
 use Rattle.modular.specs.Arithmetic.{allWords}
-use Rattle.refusals.specs.Table.{TableRow, row, notWords, firstRow, Reply, refused, done, reply, after}
+use Rattle.refusals.specs.Table.{Refusal, refusal, notWords, firstRefusal, Reply, refused, done, reply, after}
 
 pub all-passed : (result : List ℕ) → reply [] result ≡ done result
 unfolding reply
 all-passed result = refl
 
-module _ (n : ℕ) (b : Bool) (rows : List TableRow) (result : List ℕ) where
-  pub applied : b ≡ true → reply (row n b ∷ rows) result ≡ refused n
+module _ (n : ℕ) (b : Bool) (refusals : List Refusal) (result : List ℕ) where
+  pub applied : b ≡ true → reply (refusal n b ∷ refusals) result ≡ refused n
   unfolding reply
   applied e = rw e
 
-  pub passed : b ≡ false → reply (row n b ∷ rows) result ≡ reply rows result
+  pub passed : b ≡ false → reply (refusal n b ∷ refusals) result ≡ reply refusals result
   unfolding reply
   passed e = rw e
 
-module _ (p : ℕ) (xs : List ℕ) (rows : List TableRow) (result : List ℕ) where
-  pub words-applied : allWords p xs ≡ false → reply (notWords p xs ∷ rows) result ≡ refused 12
+module _ (p : ℕ) (xs : List ℕ) (refusals : List Refusal) (result : List ℕ) where
+  pub words-applied : allWords p xs ≡ false → reply (notWords p xs ∷ refusals) result ≡ refused 12
   unfolding notWords
-  words-applied e = applied 12 (not (allWords p xs)) rows result (ap not e)
+  words-applied e = applied 12 (not (allWords p xs)) refusals result (ap not e)
 
-  pub words-passed : allWords p xs ≡ true → reply (notWords p xs ∷ rows) result ≡ reply rows result
+  pub words-passed : allWords p xs ≡ true → reply (notWords p xs ∷ refusals) result ≡ reply refusals result
   unfolding notWords
-  words-passed e = passed 12 (not (allWords p xs)) rows result (ap not e)
+  words-passed e = passed 12 (not (allWords p xs)) refusals result (ap not e)
 
-module _ (n : ℕ) (b : Bool) (rows : List TableRow) where
-  pub row-applies : b ≡ true → firstRow (row n b ∷ rows) ≡ n
-  unfolding firstRow
-  row-applies e = rw e
+module _ (n : ℕ) (b : Bool) (refusals : List Refusal) where
+  pub refusal-applies : b ≡ true → firstRefusal (refusal n b ∷ refusals) ≡ n
+  unfolding firstRefusal
+  refusal-applies e = rw e
 
-  pub row-passes : b ≡ false → firstRow (row n b ∷ rows) ≡ firstRow rows
-  unfolding firstRow
-  row-passes e = rw e
+  pub refusal-passes : b ≡ false → firstRefusal (refusal n b ∷ refusals) ≡ firstRefusal refusals
+  unfolding firstRefusal
+  refusal-passes e = rw e
 
 -- Rows one after another: a row of the front ones is the first of all, and where none of them applies the rest decide.
-pub first-front : (rows more : List TableRow) → firstRow rows ≢ 0 → firstRow (rows ++ more) ≡ firstRow rows
-unfolding firstRow
+pub first-front : (refusals more : List Refusal) → firstRefusal refusals ≢ 0 → firstRefusal (refusals ++ more) ≡ firstRefusal refusals
+unfolding firstRefusal
 first-front [] more o = absurd (o refl)
-first-front (r ∷ rows) more o = at (r .applies) (first-front rows more) o
+first-front (r ∷ refusals) more o = at (r .applies) (first-front refusals more) o
   where
-    at : (b : Bool) → (firstRow rows ≢ 0 → firstRow (rows ++ more) ≡ firstRow rows) → cond b (r .number) (firstRow rows) ≢ 0
-        → cond b (r .number) (firstRow (rows ++ more)) ≡ cond b (r .number) (firstRow rows)
+    at : (b : Bool) → (firstRefusal refusals ≢ 0 → firstRefusal (refusals ++ more) ≡ firstRefusal refusals) → cond b (r .number) (firstRefusal refusals) ≢ 0
+        → cond b (r .number) (firstRefusal (refusals ++ more)) ≡ cond b (r .number) (firstRefusal refusals)
     at true ih o = refl
     at false ih o = ih o
 
 -- Every refusal of the list has a number above 0.
-pub data Numbered : List TableRow → Type 0 where
+pub data Numbered : List Refusal → Type 0 where
   none : Numbered []
-  next : {r : TableRow} {rows : List TableRow} → 0 < r .number → Numbered rows → Numbered (r ∷ rows)
+  next : {r : Refusal} {refusals : List Refusal} → 0 < r .number → Numbered refusals → Numbered (r ∷ refusals)
 
-pub first-back : (rows more : List TableRow) → Numbered rows → firstRow rows ≡ 0 → firstRow (rows ++ more) ≡ firstRow more
-unfolding firstRow
+pub first-back : (refusals more : List Refusal) → Numbered refusals → firstRefusal refusals ≡ 0 → firstRefusal (refusals ++ more) ≡ firstRefusal more
+unfolding firstRefusal
 first-back [] more N e = refl
-first-back (r ∷ rows) more (next h N) e = at (r .applies) (first-back rows more N) e
+first-back (r ∷ refusals) more (next h N) e = at (r .applies) (first-back refusals more N) e
   where
-    at : (b : Bool) → (firstRow rows ≡ 0 → firstRow (rows ++ more) ≡ firstRow more) → cond b (r .number) (firstRow rows) ≡ 0 → cond b (r .number) (firstRow (rows ++ more)) ≡ firstRow more
+    at : (b : Bool) → (firstRefusal refusals ≡ 0 → firstRefusal (refusals ++ more) ≡ firstRefusal more) → cond b (r .number) (firstRefusal refusals) ≡ 0 → cond b (r .number) (firstRefusal (refusals ++ more)) ≡ firstRefusal more
     at true ih e = absurd (omega arith)
     at false ih e = ih e
 
 -- Where no row of a list applies none of its parts does.
-pub first-none : (rows more : List TableRow) → Numbered rows → firstRow (rows ++ more) ≡ 0 → (firstRow rows ≡ 0) × (firstRow more ≡ 0)
-unfolding firstRow
+pub first-none : (refusals more : List Refusal) → Numbered refusals → firstRefusal (refusals ++ more) ≡ 0 → (firstRefusal refusals ≡ 0) × (firstRefusal more ≡ 0)
+unfolding firstRefusal
 first-none [] more N e = (refl, e)
-first-none (r ∷ rows) more (next h N) e = at (r .applies) (first-none rows more N) e
+first-none (r ∷ refusals) more (next h N) e = at (r .applies) (first-none refusals more N) e
   where
-    at : (b : Bool) → (firstRow (rows ++ more) ≡ 0 → (firstRow rows ≡ 0) × (firstRow more ≡ 0)) → cond b (r .number) (firstRow (rows ++ more)) ≡ 0
-        → (cond b (r .number) (firstRow rows) ≡ 0) × (firstRow more ≡ 0)
+    at : (b : Bool) → (firstRefusal (refusals ++ more) ≡ 0 → (firstRefusal refusals ≡ 0) × (firstRefusal more ≡ 0)) → cond b (r .number) (firstRefusal (refusals ++ more)) ≡ 0
+        → (cond b (r .number) (firstRefusal refusals) ≡ 0) × (firstRefusal more ≡ 0)
     at true ih e = absurd (omega arith)
     at false ih e = ih e
 
-pub row-none : (n : ℕ) (b : Bool) (rows : List TableRow) → firstRow (row (suc n) b ∷ rows) ≡ 0 → (b ≡ false) × (firstRow rows ≡ 0)
-unfolding firstRow
-row-none n true rows e = absurd (omega arith)
-row-none n false rows e = (refl, e)
+pub refusal-none : (n : ℕ) (b : Bool) (refusals : List Refusal) → firstRefusal (refusal (suc n) b ∷ refusals) ≡ 0 → (b ≡ false) × (firstRefusal refusals ≡ 0)
+unfolding firstRefusal
+refusal-none n true refusals e = absurd (omega arith)
+refusal-none n false refusals e = (refl, e)
 
 -- The reply is the first row that applies, or the result.
-pub reply-refused : (rows : List TableRow) (result : List ℕ) → firstRow rows ≢ 0 → reply rows result ≡ refused (firstRow rows)
-unfolding firstRow reply
+pub reply-refused : (refusals : List Refusal) (result : List ℕ) → firstRefusal refusals ≢ 0 → reply refusals result ≡ refused (firstRefusal refusals)
+unfolding firstRefusal reply
 reply-refused [] result o = absurd (o refl)
-reply-refused (r ∷ rows) result o = at (r .applies) (reply-refused rows result) o
+reply-refused (r ∷ refusals) result o = at (r .applies) (reply-refused refusals result) o
   where
-    at : (b : Bool) → (firstRow rows ≢ 0 → reply rows result ≡ refused (firstRow rows)) → cond b (r .number) (firstRow rows) ≢ 0
-        → cond b (refused (r .number)) (reply rows result) ≡ refused (cond b (r .number) (firstRow rows))
+    at : (b : Bool) → (firstRefusal refusals ≢ 0 → reply refusals result ≡ refused (firstRefusal refusals)) → cond b (r .number) (firstRefusal refusals) ≢ 0
+        → cond b (refused (r .number)) (reply refusals result) ≡ refused (cond b (r .number) (firstRefusal refusals))
     at true ih o = refl
     at false ih o = ih o
 
-pub reply-done : (rows : List TableRow) (result : List ℕ) → Numbered rows → firstRow rows ≡ 0 → reply rows result ≡ done result
-unfolding firstRow reply
+pub reply-done : (refusals : List Refusal) (result : List ℕ) → Numbered refusals → firstRefusal refusals ≡ 0 → reply refusals result ≡ done result
+unfolding firstRefusal reply
 reply-done [] result N e = refl
-reply-done (r ∷ rows) result (next h N) e = at (r .applies) (reply-done rows result N) e
+reply-done (r ∷ refusals) result (next h N) e = at (r .applies) (reply-done refusals result N) e
   where
-    at : (b : Bool) → (firstRow rows ≡ 0 → reply rows result ≡ done result) → cond b (r .number) (firstRow rows) ≡ 0
-        → cond b (refused (r .number)) (reply rows result) ≡ done result
+    at : (b : Bool) → (firstRefusal refusals ≡ 0 → reply refusals result ≡ done result) → cond b (r .number) (firstRefusal refusals) ≡ 0
+        → cond b (refused (r .number)) (reply refusals result) ≡ done result
     at true ih e = absurd (omega arith)
     at false ih e = ih e
 
-pub numbered-append : {rows more : List TableRow} → Numbered rows → Numbered more → Numbered (rows ++ more)
+pub numbered-append : {refusals more : List Refusal} → Numbered refusals → Numbered more → Numbered (refusals ++ more)
 numbered-append none M = M
 numbered-append (next h N) M = next h (numbered-append N M)
 
@@ -115,14 +115,14 @@ unfolding after
 written-after {r} {result} old new e = rw e
 
 -- An entry's two equations, for its reply and its buffer: where it gives the first row's number, and where it does the work.
-pub refused-equations : (rows : List TableRow) (result old new : List ℕ) (n : ℕ) → n ≡ firstRow rows → n ≢ 0
-    → (refused n ≡ reply rows result) × (old ≡ after (reply rows result) old new)
-refused-equations rows result old new n e o =
-    let r : reply rows result ≡ refused (firstRow rows) = reply-refused rows result (λ z. o (e ∙ z)) in
+pub refused-equations : (refusals : List Refusal) (result old new : List ℕ) (n : ℕ) → n ≡ firstRefusal refusals → n ≢ 0
+    → (refused n ≡ reply refusals result) × (old ≡ after (reply refusals result) old new)
+refused-equations refusals result old new n e o =
+    let r : reply refusals result ≡ refused (firstRefusal refusals) = reply-refused refusals result (λ z. o (e ∙ z)) in
     (ap refused e ∙ sym r, kept-after old new r)
 
-pub done-equations : (rows : List TableRow) (result old new : List ℕ) → Numbered rows → firstRow rows ≡ 0
-    → (done result ≡ reply rows result) × (new ≡ after (reply rows result) old new)
-done-equations rows result old new N z =
-    let r : reply rows result ≡ done result = reply-done rows result N z in
+pub done-equations : (refusals : List Refusal) (result old new : List ℕ) → Numbered refusals → firstRefusal refusals ≡ 0
+    → (done result ≡ reply refusals result) × (new ≡ after (reply refusals result) old new)
+done-equations refusals result old new N z =
+    let r : reply refusals result ≡ done result = reply-done refusals result N z in
     (sym r, written-after old new r)

@@ -6,21 +6,21 @@ use Prim.Native.Nat.{ℕ}
 use Rattle.modular.specs.Arithmetic.{allWords}
 
 -- A refusal as an entry tests it: its number, and whether its condition holds.
-pub record TableRow : Type 0 where
+pub record Refusal : Type 0 where
   pub number : ℕ
   pub applies : Bool
 
-abbrev pub row : ℕ → Bool → TableRow
-row n b = record { number = n; applies = b }
+abbrev pub refusal : ℕ → Bool → Refusal
+refusal n b = record { number = n; applies = b }
 
 -- 12: one of these numbers is not a word (Rules 8.1).
-unfoldable pub notWords : ℕ → List ℕ → TableRow
-notWords p xs = row 12 (not (allWords p xs))
+unfoldable pub notWords : ℕ → List ℕ → Refusal
+notWords p xs = refusal 12 (not (allWords p xs))
 
 -- The number of the first that applies, and 0 where none does (Rules 8.2).
-unfoldable pub firstRow : List TableRow → ℕ
-firstRow [] = 0
-firstRow (r ∷ rs) = cond (r .applies) (r .number) (firstRow rs)
+unfoldable pub firstRefusal : List Refusal → ℕ
+firstRefusal [] = 0
+firstRefusal (r ∷ rs) = cond (r .applies) (r .number) (firstRefusal rs)
 
 -- What an entry replies: a refusal's number, or the numbers that are its result (Rules 8.5).
 pub data Reply : Type 0 where
@@ -28,7 +28,7 @@ pub data Reply : Type 0 where
   done : List ℕ → Reply
 
 -- The reply by an entry's refusals: the first that applies, or the result.
-unfoldable pub reply : List TableRow → List ℕ → Reply
+unfoldable pub reply : List Refusal → List ℕ → Reply
 reply [] result = done result
 reply (r ∷ rs) result = cond (r .applies) (refused (r .number)) (reply rs result)
 

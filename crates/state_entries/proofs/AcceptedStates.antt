@@ -9,19 +9,19 @@ use lib.ListN.{length, take}
 use borrow.Author.Tests.{eqb-true, not-false}
 use Rattle.modular.specs.Arithmetic.{allWords}
 use Rattle.modular.proofs.Words.{left-true, right-true}
-use Rattle.refusals.specs.Table.{firstRow}
+use Rattle.refusals.specs.Table.{firstRefusal}
 use Rattle.refusals.proofs.Table.{Numbered}
 use Rattle.poseidon2.specs.Statements.{Width, Words, AcceptedDiagonal}
 use Rattle.parameters.specs.declared.ParameterSet.{ParameterSet}
-use Rattle.parameters.specs.ParameterSet.{setRows}
+use Rattle.parameters.specs.ParameterSet.{setRefusals}
 use Rattle.parameters.proofs.Accepted.{set-numbered}
-use Rattle.state_entries.specs.Permutation.{stateRows, compressRows}
+use Rattle.state_entries.specs.Permutation.{stateRefusals, compressRefusals}
 use Rattle.refusals.proofs.LengthsAndWords.{all-numbered, passed}
 use Rattle.parameters.proofs.AcceptedSets as sets
 
 -- What the core is handed.
 pub record Accepted (p : ℕ) (s : ParameterSet) (xs : List ℕ) : Type 0 where
-  pub set : firstRow (setRows p s) ≡ 0
+  pub set : firstRefusal (setRefusals p s) ≡ 0
   pub width : Width (s .width)
   pub half-some : 1 ≤ s .«full_rounds» / 2
   pub half-few : s .«full_rounds» / 2 ≤ 6
@@ -31,13 +31,13 @@ pub record Accepted (p : ℕ) (s : ParameterSet) (xs : List ℕ) : Type 0 where
   pub long : length xs ≡ s .width
   pub words : allWords p xs ≡ true
 
-pub state-numbered : (p : ℕ) (s : ParameterSet) (xs : List ℕ) → Numbered (stateRows p s xs)
-unfolding stateRows
-state-numbered p s xs = all-numbered p (setRows p s) (set-numbered p s) (not (eqb (length xs) (s .width))) xs
+pub state-numbered : (p : ℕ) (s : ParameterSet) (xs : List ℕ) → Numbered (stateRefusals p s xs)
+unfolding stateRefusals
+state-numbered p s xs = all-numbered p (setRefusals p s) (set-numbered p s) (not (eqb (length xs) (s .width))) xs
 
 -- the same where a set alone is accepted
-by-set : (p : ℕ) (s : ParameterSet) (xs : List ℕ) → 0 < p → firstRow (setRows p s) ≡ 0 → length xs ≡ s .width → allWords p xs ≡ true → Accepted p s xs
-unfolding setRows
+by-set : (p : ℕ) (s : ParameterSet) (xs : List ℕ) → 0 < p → firstRefusal (setRefusals p s) ≡ 0 → length xs ≡ s .width → allWords p xs ≡ true → Accepted p s xs
+unfolding setRefusals
 by-set p s xs positive none long words =
     let N = sets.numbers p _ _ _ _ _ _ _ positive none in
     record {
@@ -52,10 +52,10 @@ by-set p s xs positive none long words =
       words = words;
     }
 
-pub accepted : (p : ℕ) (s : ParameterSet) (xs : List ℕ) → 0 < p → firstRow (stateRows p s xs) ≡ 0 → Accepted p s xs
-unfolding stateRows
+pub accepted : (p : ℕ) (s : ParameterSet) (xs : List ℕ) → 0 < p → firstRefusal (stateRefusals p s xs) ≡ 0 → Accepted p s xs
+unfolding stateRefusals
 accepted p s xs positive z =
-    let P = passed p (setRows p s) (set-numbered p s) (not (eqb (length xs) (s .width))) xs z in
+    let P = passed p (setRefusals p s) (set-numbered p s) (not (eqb (length xs) (s .width))) xs z in
     by-set p s xs positive (P .before) (eqb-true (length xs) (s .width) (not-false (eqb (length xs) (s .width)) (P .lengths))) (P .words)
 
 -- A set, a state and a node to be written.
@@ -64,14 +64,14 @@ pub record AcceptedNode (p : ℕ) (s : ParameterSet) (xs node : List ℕ) : Type
   pub node-fits : s .«node_size» ≤ s .width
   pub node-long : length node ≡ s .«node_size»
 
-pub compression-numbered : (p : ℕ) (s : ParameterSet) (xs node : List ℕ) → Numbered (compressRows p s xs node)
-unfolding compressRows
-compression-numbered p s xs node = all-numbered p (setRows p s) (set-numbered p s) _ xs
+pub compression-numbered : (p : ℕ) (s : ParameterSet) (xs node : List ℕ) → Numbered (compressRefusals p s xs node)
+unfolding compressRefusals
+compression-numbered p s xs node = all-numbered p (setRefusals p s) (set-numbered p s) _ xs
 
-pub accepted-compression : (p : ℕ) (s : ParameterSet) (xs node : List ℕ) → 0 < p → firstRow (compressRows p s xs node) ≡ 0 → AcceptedNode p s xs node
-unfolding compressRows
+pub accepted-compression : (p : ℕ) (s : ParameterSet) (xs node : List ℕ) → 0 < p → firstRefusal (compressRefusals p s xs node) ≡ 0 → AcceptedNode p s xs node
+unfolding compressRefusals
 accepted-compression p s xs node positive z =
-    let P = passed p (setRows p s) (set-numbered p s) (not (eqb (length xs) (s .width) && eqb (length node) (s .«node_size»))) xs z in
+    let P = passed p (setRefusals p s) (set-numbered p s) (not (eqb (length xs) (s .width) && eqb (length node) (s .«node_size»))) xs z in
     let both = not-false (eqb (length xs) (s .width) && eqb (length node) (s .«node_size»)) (P .lengths) in
     let A = by-set p s xs positive (P .before) (eqb-true (length xs) (s .width) (left-true (eqb (length xs) (s .width)) (eqb (length node) (s .«node_size»)) both)) (P .words) in
     record {

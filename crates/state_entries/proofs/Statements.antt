@@ -11,17 +11,17 @@ use Rattle.modular.specs.Arithmetic.{allWords}
 use Rattle.modular.specs.Goldilocks.{p}
 use Rattle.modular.proofs.Goldilocks.{goldilocks}
 use Rattle.modular.proofs.Words.{words-by}
-use Rattle.refusals.specs.Table.{firstRow, Reply, refused, done, reply, after}
+use Rattle.refusals.specs.Table.{firstRefusal, Reply, refused, done, reply, after}
 use Rattle.refusals.proofs.Table.{reply-refused, reply-done, kept-after, written-after}
 use Rattle.refusals.proofs.LengthsAndWords.{at-none}
 use Rattle.parameters.specs.declared.ParameterSet.{ParameterSet}
-use Rattle.parameters.specs.ParameterSet.{setRows}
+use Rattle.parameters.specs.ParameterSet.{setRefusals}
 use Rattle.parameters.proofs.Accepted.{set-numbered}
 use Rattle.poseidon2.specs.Layers.{addLists}
 use Rattle.poseidon2.specs.Compression.{compress}
 use Rattle.poseidon2.specs.Statements.{State, Undo}
 use Rattle.poseidon2.proofs.Rounds.{claims}
-use Rattle.state_entries.specs.Permutation.{permuteUnder, unpermuteUnder, compressUnder, stateRows, stateReply, permuted, unpermuted, compressRows, compressReply, compressed}
+use Rattle.state_entries.specs.Permutation.{permuteUnder, unpermuteUnder, compressUnder, stateRefusals, stateReply, permuted, unpermuted, compressRefusals, compressReply, compressed}
 use Rattle.state_entries.specs.Statements.{Places, UnderAccepted, InTurn, PermutationClaims}
 use Rattle.parameters.proofs.AcceptedSets as sets
 use Rattle.state_entries.proofs.AcceptedStates.{accepted, accepted-compression, state-numbered, compression-numbered}
@@ -30,9 +30,9 @@ module _ (q : ℕ) (F : PrimeField q) (s : ParameterSet) (P : Places s) where
   positive : 0 < q
   positive = omega (arith, F .fermat .above)
 
-  module _ (none : firstRow (setRows q s) ≡ 0) where
+  module _ (none : firstRefusal (setRefusals q s) ≡ 0) where
     undo : Undo q (s .width) (permuteUnder q s) (unpermuteUnder q s)
-    unfolding permuteUnder unpermuteUnder setRows
+    unfolding permuteUnder unpermuteUnder setRefusals
     undo =
         let N = sets.numbers q _ _ _ _ _ (s .diagonal) (s .constants) positive none in
         let fits : s .width ≤ length (s .diagonal) = omega (arith, sets.width-few q _ _ _ _ _ (s .diagonal) (s .constants) positive none, P .diagonal) in
@@ -41,7 +41,7 @@ module _ (q : ℕ) (F : PrimeField q) (s : ParameterSet) (P : Places s) where
         record { to = U .to; from = U .from; back = U .back; forth = U .forth }
 
     pub under-accepted : UnderAccepted q s
-    unfolding permuteUnder compressUnder compress setRows
+    unfolding permuteUnder compressUnder compress setRefusals
     under-accepted =
         let N = sets.numbers q _ _ _ _ _ (s .diagonal) (s .constants) positive none in
         record {
@@ -51,11 +51,11 @@ module _ (q : ℕ) (F : PrimeField q) (s : ParameterSet) (P : Places s) where
 
     -- t words are taken
     taken : (xs : List ℕ) → State q (s .width) xs → stateReply q s xs ≡ done []
-    unfolding stateReply stateRows
+    unfolding stateReply stateRefusals
     taken xs S =
         let words = words-by q xs (λ i b. S .words .at i) in
-        reply-done (stateRows q s xs) [] (state-numbered q s xs)
-        (at-none q (setRows q s) (set-numbered q s) _ xs none (ap not (eq-eqb (length xs) (s .width) (S .width))) words)
+        reply-done (stateRefusals q s xs) [] (state-numbered q s xs)
+        (at-none q (setRefusals q s) (set-numbered q s) _ xs none (ap not (eq-eqb (length xs) (s .width) (S .width))) words)
 
   -- Where a list is refused both calls leave it; where it is taken it is a state of an accepted set.
   refused-both : (xs : List ℕ) (n : ℕ) → stateReply q s xs ≡ refused n → (permuted q s xs ≡ xs) × (unpermuted q s xs ≡ xs)
@@ -69,9 +69,9 @@ module _ (q : ℕ) (F : PrimeField q) (s : ParameterSet) (P : Places s) where
   -- what is compressed is taken as a state
   compressed-of : (xs node : List ℕ) → compressed q s xs node ≡ after (compressReply q s xs node) node (take (s .«node_size») (addLists q (permuted q s xs) xs))
   unfolding compressed compressReply
-  compressed-of xs node = of (firstRow (compressRows q s xs node)) refl
+  compressed-of xs node = of (firstRefusal (compressRefusals q s xs node)) refl
     where
-      of : (n : ℕ) → firstRow (compressRows q s xs node) ≡ n
+      of : (n : ℕ) → firstRefusal (compressRefusals q s xs node) ≡ n
           → after (compressReply q s xs node) node (compressUnder q s xs) ≡ after (compressReply q s xs node) node (take (s .«node_size») (addLists q (permuted q s xs) xs))
       of zero z =
           let A = accepted-compression q s xs node positive z .state in
@@ -81,20 +81,20 @@ module _ (q : ℕ) (F : PrimeField q) (s : ParameterSet) (P : Places s) where
           under-accepted none .compression xs S .0 ∙ ap (λ (ys : List ℕ). take (s .«node_size») (addLists q ys xs)) (sym (done-both xs (taken none xs S) .0)) in
           ap (after (compressReply q s xs node) node) same
       of (suc n) z =
-          let R : compressReply q s xs node ≡ refused (firstRow (compressRows q s xs node)) = reply-refused (compressRows q s xs node) [] (λ e. absurd (omega arith)) in
+          let R : compressReply q s xs node ≡ refused (firstRefusal (compressRefusals q s xs node)) = reply-refused (compressRefusals q s xs node) [] (λ e. absurd (omega arith)) in
           sym (kept-after node (compressUnder q s xs) R) ∙ kept-after node _ R
 
   in-turn : (xs : List ℕ) → InTurn q s xs
   unfolding stateReply
-  in-turn xs = of (firstRow (stateRows q s xs)) refl
+  in-turn xs = of (firstRefusal (stateRefusals q s xs)) refl
     where
-      of : (n : ℕ) → firstRow (stateRows q s xs) ≡ n → InTurn q s xs
+      of : (n : ℕ) → firstRefusal (stateRefusals q s xs) ≡ n → InTurn q s xs
       of zero z =
           let A = accepted q s xs positive z in
           let none = A .set in
           let U = undo none in
           let S : State q (s .width) xs = sets.state-of q (s .width) xs positive (A .long) (A .words) in
-          let R : stateReply q s xs ≡ done [] = reply-done (stateRows q s xs) [] (state-numbered q s xs) z in
+          let R : stateReply q s xs ≡ done [] = reply-done (stateRefusals q s xs) [] (state-numbered q s xs) z in
           let B = done-both xs R in
           let to = taken none (permuteUnder q s xs) (U .to xs S) in
           let from = taken none (unpermuteUnder q s xs) (U .from xs S) in
@@ -106,7 +106,7 @@ module _ (q : ℕ) (F : PrimeField q) (s : ParameterSet) (P : Places s) where
             compression = compressed-of xs;
           }
       of (suc n) z =
-          let R : stateReply q s xs ≡ refused (firstRow (stateRows q s xs)) = reply-refused (stateRows q s xs) [] (λ e. absurd (omega arith)) in
+          let R : stateReply q s xs ≡ refused (firstRefusal (stateRefusals q s xs)) = reply-refused (stateRefusals q s xs) [] (λ e. absurd (omega arith)) in
           let K = refused-both xs _ R in
           record {
             back = ap (unpermuted q s) (K .0) ∙ K .1;

@@ -4,9 +4,9 @@ use mathlib.Core.List.{List, [], _∷_, _++_}
 use Prim.Native.Nat.{ℕ, _/_}
 use lib.Dec.{eqb}
 use lib.ListN.{length}
-use Rattle.refusals.specs.Table.{TableRow, row, notWords, Reply, refused, done, reply, after}
+use Rattle.refusals.specs.Table.{Refusal, refusal, notWords, Reply, refused, done, reply, after}
 use Rattle.parameters.specs.declared.ParameterSet.{ParameterSet}
-use Rattle.parameters.specs.ParameterSet.{setRows}
+use Rattle.parameters.specs.ParameterSet.{setRefusals}
 use Rattle.poseidon2.specs.Rounds.{permute}
 use Rattle.poseidon2.specs.Inverse.{unpermute}
 use Rattle.poseidon2.specs.Compression.{compress}
@@ -29,12 +29,12 @@ unfoldable pub compressUnder : ℕ → ParameterSet → List ℕ → List ℕ
 compressUnder p s xs =
     compress p (s .«node_size») (s .«full_rounds» / 2) (s .«partial_rounds») (s .diagonal) (s .constants) xs
 
--- The rows of a state: the set's, then "10 | another lent slice not of its exact length", then 12.
-unfoldable pub stateRows : ℕ → ParameterSet → List ℕ → List TableRow
-stateRows p s xs = setRows p s ++ (row 10 (not (eqb (length xs) (s .width))) ∷ notWords p xs ∷ [])
+-- The refusals of a state: the set's, then "10 | another lent slice not of its exact length", then 12.
+unfoldable pub stateRefusals : ℕ → ParameterSet → List ℕ → List Refusal
+stateRefusals p s xs = setRefusals p s ++ (refusal 10 (not (eqb (length xs) (s .width))) ∷ notWords p xs ∷ [])
 
 unfoldable pub stateReply : ℕ → ParameterSet → List ℕ → Reply
-stateReply p s xs = reply (stateRows p s xs) []
+stateReply p s xs = reply (stateRefusals p s xs) []
 
 -- `permute` and `unpermute` work in place on a state.
 unfoldable pub permuted : ℕ → ParameterSet → List ℕ → List ℕ
@@ -44,12 +44,12 @@ unfoldable pub unpermuted : ℕ → ParameterSet → List ℕ → List ℕ
 unpermuted p s xs = after (stateReply p s xs) xs (unpermuteUnder p s xs)
 
 -- `compress` goes from a state of t numbers to a node of l.
-unfoldable pub compressRows : ℕ → ParameterSet → List ℕ → List ℕ → List TableRow
-compressRows p s xs node =
-    setRows p s ++ (row 10 (not (eqb (length xs) (s .width) && eqb (length node) (s .«node_size»))) ∷ notWords p xs ∷ [])
+unfoldable pub compressRefusals : ℕ → ParameterSet → List ℕ → List ℕ → List Refusal
+compressRefusals p s xs node =
+    setRefusals p s ++ (refusal 10 (not (eqb (length xs) (s .width) && eqb (length node) (s .«node_size»))) ∷ notWords p xs ∷ [])
 
 unfoldable pub compressReply : ℕ → ParameterSet → List ℕ → List ℕ → Reply
-compressReply p s xs node = reply (compressRows p s xs node) []
+compressReply p s xs node = reply (compressRefusals p s xs node) []
 
 unfoldable pub compressed : ℕ → ParameterSet → List ℕ → List ℕ → List ℕ
 compressed p s xs node = after (compressReply p s xs node) node (compressUnder p s xs)

@@ -4,9 +4,9 @@ use mathlib.Core.Path.{_≡_}
 use mathlib.Core.List.{List}
 use Prim.Native.Nat.{ℕ}
 use lib.ListN.{length, take}
-use Rattle.refusals.specs.Table.{firstRow, after}
+use Rattle.refusals.specs.Table.{firstRefusal, after}
 use Rattle.parameters.specs.declared.ParameterSet.{ParameterSet}
-use Rattle.parameters.specs.ParameterSet.{setRows}
+use Rattle.parameters.specs.ParameterSet.{setRefusals}
 use Rattle.poseidon2.specs.Layers.{addLists}
 use Rattle.poseidon2.specs.Statements.{State, Undo}
 use Rattle.state_entries.specs.Permutation.{permuteUnder, unpermuteUnder, compressUnder, stateReply, permuted, unpermuted, compressReply, compressed}
@@ -37,5 +37,5 @@ pub record InTurn (p : ℕ) (s : ParameterSet) (xs : List ℕ) : Type 0 where
 
 -- All of it, modulo p: for every set whose lists have their places.
 pub record PermutationClaims (p : ℕ) : Type 0 where
-  pub accepted : (s : ParameterSet) → Places s → firstRow (setRows p s) ≡ 0 → UnderAccepted p s
+  pub accepted : (s : ParameterSet) → Places s → firstRefusal (setRefusals p s) ≡ 0 → UnderAccepted p s
   pub entries : (s : ParameterSet) → Places s → (xs : List ℕ) → InTurn p s xs

@@ -4,7 +4,7 @@ pub mod sets;
 pub mod states;
 
 pub use outcome::Outcome;
-pub use sets::row_of;
+pub use sets::refusal_of;
 pub use sets::validate;
 pub use states::compress;
 pub use states::permute;

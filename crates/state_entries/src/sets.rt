@@ -1,8 +1,8 @@
 // Parameter sets: validation, and the row that turns down one that is handed in.
 ghost use mathlib.Core.Path.{_≡_};
 ghost use Rattle.modular.specs.Goldilocks.{p};
-ghost use Rattle.refusals.specs.Table.{firstRow};
-ghost use Rattle.parameters.specs.ParameterSet.{validation, setRows};
+ghost use Rattle.refusals.specs.Table.{firstRefusal};
+ghost use Rattle.parameters.specs.ParameterSet.{validation, setRefusals};
 use parameters::ParameterSet;
 use parameters::Validation;
 
@@ -30,12 +30,12 @@ pub fn validate(
 }
 
 // The first of the rows that applies to a set that is handed in, or 0.
-pub fn row_of(set: ParameterSet) -> u8
-    ensures { λ r. ⌜ r ≡ firstRow (setRows p set) ⌝ }
+pub fn refusal_of(set: ParameterSet) -> u8
+    ensures { λ r. ⌜ r ≡ firstRefusal (setRefusals p set) ⌝ }
 {
     let diagonal = set.diagonal;
     let constants = set.constants;
-    parameters::row_of_set(
+    parameters::refusal_of_set(
         set.width,
         set.node_size,
         set.height,

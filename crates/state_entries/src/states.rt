@@ -1,19 +1,19 @@
 // The permutation, its inverse and the compression, under a set that is handed in.
 ghost use mathlib.Core.Path.{_≡_};
 ghost use Rattle.modular.specs.Goldilocks.{p};
-ghost use Rattle.refusals.specs.Table.{firstRow};
-ghost use Rattle.state_entries.specs.Permutation.{outcomeReply, stateRows, stateReply, permuted, unpermuted, compressRows, compressReply, compressed};
+ghost use Rattle.refusals.specs.Table.{firstRefusal};
+ghost use Rattle.state_entries.specs.Permutation.{outcomeReply, stateRefusals, stateReply, permuted, unpermuted, compressRefusals, compressReply, compressed};
 use crate::outcome::Outcome;
 use crate::sets;
 use parameters::ParameterSet;
 
 // The first row that turns back a set and a state, or 0.
-fn row_of_state(set: ParameterSet, state: &[u64]) -> u8
-    ensures { λ r. ⌜ r ≡ firstRow (stateRows p set (now (state .entry))) ⌝ }
+fn refusal_of_state(set: ParameterSet, state: &[u64]) -> u8
+    ensures { λ r. ⌜ r ≡ firstRefusal (stateRefusals p set (now (state .entry))) ⌝ }
 {
-    let row = sets::row_of(set);
-    if row != 0 {
-        return row;
+    let number = sets::refusal_of(set);
+    if number != 0 {
+        return number;
     }
     if state.len() as u64 != set.width {
         return 10;
@@ -28,9 +28,9 @@ fn row_of_state(set: ParameterSet, state: &[u64]) -> u8
 pub fn permute(set: ParameterSet, state: &mut [u64]) -> Outcome
     ensures { λ r. ⌜ (outcomeReply r ≡ stateReply p set (now (state .entry))) × (now (state .exit) ≡ permuted p set (now (state .entry))) ⌝ }
 {
-    let row = row_of_state(set, state);
-    if row != 0 {
-        return Outcome::Refused(row);
+    let number = refusal_of_state(set, state);
+    if number != 0 {
+        return Outcome::Refused(number);
     }
     let width = set.width as usize;
     let half = (set.full_rounds / 2) as usize;
@@ -45,9 +45,9 @@ pub fn permute(set: ParameterSet, state: &mut [u64]) -> Outcome
 pub fn unpermute(set: ParameterSet, state: &mut [u64]) -> Outcome
     ensures { λ r. ⌜ (outcomeReply r ≡ stateReply p set (now (state .entry))) × (now (state .exit) ≡ unpermuted p set (now (state .entry))) ⌝ }
 {
-    let row = row_of_state(set, state);
-    if row != 0 {
-        return Outcome::Refused(row);
+    let number = refusal_of_state(set, state);
+    if number != 0 {
+        return Outcome::Refused(number);
     }
     let width = set.width as usize;
     let half = (set.full_rounds / 2) as usize;
@@ -59,12 +59,12 @@ pub fn unpermute(set: ParameterSet, state: &mut [u64]) -> Outcome
 }
 
 // The first row that turns back a set, a state and a node to be written, or 0.
-fn row_of_compression(set: ParameterSet, state: &[u64], node: &[u64]) -> u8
-    ensures { λ r. ⌜ r ≡ firstRow (compressRows p set (now (state .entry)) (now (node .entry))) ⌝ }
+fn refusal_of_compression(set: ParameterSet, state: &[u64], node: &[u64]) -> u8
+    ensures { λ r. ⌜ r ≡ firstRefusal (compressRefusals p set (now (state .entry)) (now (node .entry))) ⌝ }
 {
-    let row = sets::row_of(set);
-    if row != 0 {
-        return row;
+    let number = sets::refusal_of(set);
+    if number != 0 {
+        return number;
     }
     if state.len() as u64 != set.width {
         return 10;
@@ -83,9 +83,9 @@ pub fn compress(set: ParameterSet, state: &[u64], node: &mut [u64]) -> Outcome
     ensures { λ r. ⌜ (outcomeReply r ≡ compressReply p set (now (state .entry)) (now (node .entry)))
         × (now (node .exit) ≡ compressed p set (now (state .entry)) (now (node .entry))) ⌝ }
 {
-    let row = row_of_compression(set, state, node);
-    if row != 0 {
-        return Outcome::Refused(row);
+    let number = refusal_of_compression(set, state, node);
+    if number != 0 {
+        return Outcome::Refused(number);
     }
     let width = set.width as usize;
     let node_size = set.node_size as usize;

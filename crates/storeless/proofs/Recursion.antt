@@ -100,8 +100,8 @@ module _ (d : Dimensions) (D C leaves : List ℕ) where
       (joined-same (λ c. part ((f + c) * l) l leaves) (λ c. part (f * l + c * l) l leaves) n (λ c b. ap (λ (a : ℕ). part a l leaves) (add-mul f c l))
       ∙ joined-parts (f * l) l leaves n))
 
-  pub row-none : (j f : ℕ) {n : ℕ} (r : List ℕ) → n ≡ 0 → take (n * d .«node_size») r ≡ rowOf (tree d D C) leaves j f n
-  row-none j f r e =
+  pub refusal-none : (j f : ℕ) {n : ℕ} (r : List ℕ) → n ≡ 0 → take (n * d .«node_size») r ≡ rowOf (tree d D C) leaves j f n
+  refusal-none j f r e =
       let z : 0 * d .«node_size» ≡ 0 = zero-mul (d .«node_size») in
       rw e (ap (λ (a : ℕ). take a r) z ∙ sym (row-from-none (tree d D C) leaves j f))
 

@@ -4,9 +4,9 @@ use mathlib.Core.List.{List, [], _∷_, _++_}
 use Prim.Native.Nat.{ℕ}
 use lib.Dec.{eqb, ltb}
 use lib.ListN.{length}
-use Rattle.refusals.specs.Table.{TableRow, row, notWords, Reply, refused, done, reply, after}
+use Rattle.refusals.specs.Table.{Refusal, refusal, notWords, Reply, refused, done, reply, after}
 use Rattle.parameters.specs.declared.ParameterSet.{ParameterSet}
-use Rattle.parameters.specs.ParameterSet.{setRows}
+use Rattle.parameters.specs.ParameterSet.{setRefusals}
 use Rattle.merkle.specs.Levels.{build, root}
 use Rattle.merkle.specs.Storeless.{storelessRoot}
 use Rattle.merkle.specs.Openings.{opening, accepts}
@@ -19,54 +19,54 @@ abbrev pub has : List ℕ → ℕ → Bool
 has xs n = eqb (length xs) n
 
 -- "11 | a place not below k^h"
-abbrev pub noPlace : ℕ → ParameterSet → ℕ → TableRow
-noPlace p s q = row 11 (not (ltb q (leafCount p s)))
+abbrev pub noPlace : ℕ → ParameterSet → ℕ → Refusal
+noPlace p s q = refusal 11 (not (ltb q (leafCount p s)))
 
 -- Building "takes a lent list of the k^h leaves and a lent store and writes the whole store".
-unfoldable pub buildRows : ℕ → ParameterSet → List ℕ → List ℕ → List TableRow
-buildRows p s leaves store =
-    setRows p s ++ (row 10 (not (has leaves (leafWords p s) && has store (storeWords p s))) ∷ notWords p leaves ∷ [])
+unfoldable pub buildRefusals : ℕ → ParameterSet → List ℕ → List ℕ → List Refusal
+buildRefusals p s leaves store =
+    setRefusals p s ++ (refusal 10 (not (has leaves (leafWords p s) && has store (storeWords p s))) ∷ notWords p leaves ∷ [])
 
 unfoldable pub buildReply : ℕ → ParameterSet → List ℕ → List ℕ → Reply
-buildReply p s leaves store = reply (buildRows p s leaves store) []
+buildReply p s leaves store = reply (buildRefusals p s leaves store) []
 
 unfoldable pub built : ℕ → ParameterSet → List ℕ → List ℕ → List ℕ
 built p s leaves store = after (buildReply p s leaves store) store (build (treeOf p s) (s .height) leaves)
 
--- "The root is its last l words"; row 12 is of these.
-unfoldable pub rootRows : ℕ → ParameterSet → List ℕ → List ℕ → List TableRow
-rootRows p s store node =
-    setRows p s
-    ++ (row 10 (not (has store (storeWords p s) && has node (s .«node_size»))) ∷ notWords p (root (treeOf p s) store) ∷ [])
+-- "The root is its last l words"; refusal 12 is of these.
+unfoldable pub rootRefusals : ℕ → ParameterSet → List ℕ → List ℕ → List Refusal
+rootRefusals p s store node =
+    setRefusals p s
+    ++ (refusal 10 (not (has store (storeWords p s) && has node (s .«node_size»))) ∷ notWords p (root (treeOf p s) store) ∷ [])
 
 unfoldable pub rootReply : ℕ → ParameterSet → List ℕ → List ℕ → Reply
-rootReply p s store node = reply (rootRows p s store node) []
+rootReply p s store node = reply (rootRefusals p s store node) []
 
 unfoldable pub rooted : ℕ → ParameterSet → List ℕ → List ℕ → List ℕ
 rooted p s store node = after (rootReply p s store node) node (root (treeOf p s) store)
 
 -- "The storeless root reads leaves only."
-unfoldable pub storelessRows : ℕ → ParameterSet → List ℕ → List ℕ → List TableRow
-storelessRows p s leaves node =
-    setRows p s ++ (row 10 (not (has leaves (leafWords p s) && has node (s .«node_size»))) ∷ notWords p leaves ∷ [])
+unfoldable pub storelessRefusals : ℕ → ParameterSet → List ℕ → List ℕ → List Refusal
+storelessRefusals p s leaves node =
+    setRefusals p s ++ (refusal 10 (not (has leaves (leafWords p s) && has node (s .«node_size»))) ∷ notWords p leaves ∷ [])
 
 unfoldable pub storelessReply : ℕ → ParameterSet → List ℕ → List ℕ → Reply
-storelessReply p s leaves node = reply (storelessRows p s leaves node) []
+storelessReply p s leaves node = reply (storelessRefusals p s leaves node) []
 
 unfoldable pub storelessRooted : ℕ → ParameterSet → List ℕ → List ℕ → List ℕ
 storelessRooted p s leaves node =
     after (storelessReply p s leaves node) node (storelessRoot (treeOf p s) (s .height) leaves)
 
--- "The opening of place q"; row 12 covers "for an opening the siblings copied".
-unfoldable pub openRows : ℕ → ParameterSet → List ℕ → ℕ → List ℕ → List TableRow
-openRows p s store q siblings =
-    setRows p s
-    ++ (row 10 (not (has store (storeWords p s) && has siblings (openingWords p s)))
+-- "The opening of place q"; refusal 12 covers "for an opening the siblings copied".
+unfoldable pub openRefusals : ℕ → ParameterSet → List ℕ → ℕ → List ℕ → List Refusal
+openRefusals p s store q siblings =
+    setRefusals p s
+    ++ (refusal 10 (not (has store (storeWords p s) && has siblings (openingWords p s)))
     ∷ noPlace p s q
     ∷ notWords p (opening (treeOf p s) (s .height) q store) ∷ [])
 
 unfoldable pub openReply : ℕ → ParameterSet → List ℕ → ℕ → List ℕ → Reply
-openReply p s store q siblings = reply (openRows p s store q siblings) []
+openReply p s store q siblings = reply (openRefusals p s store q siblings) []
 
 unfoldable pub opened : ℕ → ParameterSet → List ℕ → ℕ → List ℕ → List ℕ
 opened p s store q siblings = after (openReply p s store q siblings) siblings (opening (treeOf p s) (s .height) q store)
@@ -77,14 +77,14 @@ verdictReply Accepted = done (1 ∷ [])
 verdictReply Rejected = done (0 ∷ [])
 verdictReply (Refused n) = refused n
 
-unfoldable pub verifyRows : ℕ → ParameterSet → List ℕ → ℕ → List ℕ → List ℕ → List TableRow
-verifyRows p s top q leaf siblings =
-    setRows p s
-    ++ (row 10 (not (has top (s .«node_size») && has leaf (s .«node_size») && has siblings (openingWords p s)))
+unfoldable pub verifyRefusals : ℕ → ParameterSet → List ℕ → ℕ → List ℕ → List ℕ → List Refusal
+verifyRefusals p s top q leaf siblings =
+    setRefusals p s
+    ++ (refusal 10 (not (has top (s .«node_size») && has leaf (s .«node_size») && has siblings (openingWords p s)))
     ∷ noPlace p s q
     ∷ notWords p (top ++ (leaf ++ siblings)) ∷ [])
 
 -- "Accepted: the leaf put back among its siblings at each level ends in the given root."
 unfoldable pub verifyReply : ℕ → ParameterSet → List ℕ → ℕ → List ℕ → List ℕ → Reply
 verifyReply p s top q leaf siblings =
-    reply (verifyRows p s top q leaf siblings) (cond (accepts (treeOf p s) (s .height) top q leaf siblings) 1 0 ∷ [])
+    reply (verifyRefusals p s top q leaf siblings) (cond (accepts (treeOf p s) (s .height) top q leaf siblings) 1 0 ∷ [])

@@ -1,20 +1,20 @@
 // Building and roots, under a set that is handed in.
 ghost use mathlib.Core.Path.{_≡_};
 ghost use Rattle.modular.specs.Goldilocks.{p};
-ghost use Rattle.refusals.specs.Table.{firstRow};
+ghost use Rattle.refusals.specs.Table.{firstRefusal};
 ghost use Rattle.state_entries.specs.Permutation.{outcomeReply};
-ghost use Rattle.tree_entries.specs.Trees.{buildRows, buildReply, built, rootRows, rootReply, rooted, storelessRows, storelessReply, storelessRooted};
+ghost use Rattle.tree_entries.specs.Trees.{buildRefusals, buildReply, built, rootRefusals, rootReply, rooted, storelessRefusals, storelessReply, storelessRooted};
 use parameters::ParameterSet;
 use state_entries::Outcome;
 use trees::sets;
 
 // The first row that turns back a set, leaves and a store to be written, or 0.
-fn row_of_build(set: ParameterSet, leaves: &[u64], store: &[u64]) -> u8
-    ensures { λ r. ⌜ r ≡ firstRow (buildRows p set (now (leaves .entry)) (now (store .entry))) ⌝ }
+fn refusal_of_build(set: ParameterSet, leaves: &[u64], store: &[u64]) -> u8
+    ensures { λ r. ⌜ r ≡ firstRefusal (buildRefusals p set (now (leaves .entry)) (now (store .entry))) ⌝ }
 {
-    let row = state_entries::row_of(set);
-    if row != 0 {
-        return row;
+    let number = state_entries::refusal_of(set);
+    if number != 0 {
+        return number;
     }
     if leaves.len() != sets::leaf_words(set) {
         return 10;
@@ -33,9 +33,9 @@ pub fn build(set: ParameterSet, leaves: &[u64], store: &mut [u64]) -> Outcome
     ensures { λ r. ⌜ (outcomeReply r ≡ buildReply p set (now (leaves .entry)) (now (store .entry)))
         × (now (store .exit) ≡ built p set (now (leaves .entry)) (now (store .entry))) ⌝ }
 {
-    let row = row_of_build(set, leaves, store);
-    if row != 0 {
-        return Outcome::Refused(row);
+    let number = refusal_of_build(set, leaves, store);
+    if number != 0 {
+        return Outcome::Refused(number);
     }
     let d = sets::dimensions(set);
     let diagonal = set.diagonal;
@@ -45,12 +45,12 @@ pub fn build(set: ParameterSet, leaves: &[u64], store: &mut [u64]) -> Outcome
 }
 
 // The first row that turns back a set, a store and a node to be written, or 0.
-fn row_of_root(set: ParameterSet, store: &[u64], node: &[u64]) -> u8
-    ensures { λ r. ⌜ r ≡ firstRow (rootRows p set (now (store .entry)) (now (node .entry))) ⌝ }
+fn refusal_of_root(set: ParameterSet, store: &[u64], node: &[u64]) -> u8
+    ensures { λ r. ⌜ r ≡ firstRefusal (rootRefusals p set (now (store .entry)) (now (node .entry))) ⌝ }
 {
-    let row = state_entries::row_of(set);
-    if row != 0 {
-        return row;
+    let number = state_entries::refusal_of(set);
+    if number != 0 {
+        return number;
     }
     if store.len() != sets::store_words(set) {
         return 10;
@@ -69,9 +69,9 @@ pub fn root(set: ParameterSet, store: &[u64], node: &mut [u64]) -> Outcome
     ensures { λ r. ⌜ (outcomeReply r ≡ rootReply p set (now (store .entry)) (now (node .entry)))
         × (now (node .exit) ≡ rooted p set (now (store .entry)) (now (node .entry))) ⌝ }
 {
-    let row = row_of_root(set, store, node);
-    if row != 0 {
-        return Outcome::Refused(row);
+    let number = refusal_of_root(set, store, node);
+    if number != 0 {
+        return Outcome::Refused(number);
     }
     let d = sets::dimensions(set);
     trees::copy_root(d, store, node);
@@ -79,12 +79,12 @@ pub fn root(set: ParameterSet, store: &[u64], node: &mut [u64]) -> Outcome
 }
 
 // The first row that turns back a set, leaves and a node to be written, or 0.
-fn row_of_storeless(set: ParameterSet, leaves: &[u64], node: &[u64]) -> u8
-    ensures { λ r. ⌜ r ≡ firstRow (storelessRows p set (now (leaves .entry)) (now (node .entry))) ⌝ }
+fn refusal_of_storeless(set: ParameterSet, leaves: &[u64], node: &[u64]) -> u8
+    ensures { λ r. ⌜ r ≡ firstRefusal (storelessRefusals p set (now (leaves .entry)) (now (node .entry))) ⌝ }
 {
-    let row = state_entries::row_of(set);
-    if row != 0 {
-        return row;
+    let number = state_entries::refusal_of(set);
+    if number != 0 {
+        return number;
     }
     if leaves.len() != sets::leaf_words(set) {
         return 10;
@@ -103,9 +103,9 @@ pub fn storeless_root(set: ParameterSet, leaves: &[u64], node: &mut [u64]) -> Ou
     ensures { λ r. ⌜ (outcomeReply r ≡ storelessReply p set (now (leaves .entry)) (now (node .entry)))
         × (now (node .exit) ≡ storelessRooted p set (now (leaves .entry)) (now (node .entry))) ⌝ }
 {
-    let row = row_of_storeless(set, leaves, node);
-    if row != 0 {
-        return Outcome::Refused(row);
+    let number = refusal_of_storeless(set, leaves, node);
+    if number != 0 {
+        return Outcome::Refused(number);
     }
     let d = sets::dimensions(set);
     let diagonal = set.diagonal;

@@ -2,21 +2,21 @@
 ghost use mathlib.Core.Path.{_≡_};
 ghost use mathlib.Core.List.{[], _∷_, _++_};
 ghost use Rattle.modular.specs.Goldilocks.{p};
-ghost use Rattle.refusals.specs.Table.{firstRow, notWords};
+ghost use Rattle.refusals.specs.Table.{firstRefusal, notWords};
 ghost use Rattle.state_entries.specs.Permutation.{outcomeReply};
-ghost use Rattle.tree_entries.specs.Trees.{openRows, openReply, opened, verdictReply, verifyRows, verifyReply};
+ghost use Rattle.tree_entries.specs.Trees.{openRefusals, openReply, opened, verdictReply, verifyRefusals, verifyReply};
 use crate::verdict::Verdict;
 use parameters::ParameterSet;
 use state_entries::Outcome;
 use trees::sets;
 
 // The first row that turns back a set, a store, a place and siblings to be written, or 0.
-fn row_of_open(set: ParameterSet, store: &[u64], place: u64, siblings: &[u64]) -> u8
-    ensures { λ r. ⌜ r ≡ firstRow (openRows p set (now (store .entry)) place (now (siblings .entry))) ⌝ }
+fn refusal_of_open(set: ParameterSet, store: &[u64], place: u64, siblings: &[u64]) -> u8
+    ensures { λ r. ⌜ r ≡ firstRefusal (openRefusals p set (now (store .entry)) place (now (siblings .entry))) ⌝ }
 {
-    let row = state_entries::row_of(set);
-    if row != 0 {
-        return row;
+    let number = state_entries::refusal_of(set);
+    if number != 0 {
+        return number;
     }
     if store.len() != sets::store_words(set) {
         return 10;
@@ -39,9 +39,9 @@ pub fn open(set: ParameterSet, store: &[u64], place: u64, siblings: &mut [u64]) 
     ensures { λ r. ⌜ (outcomeReply r ≡ openReply p set (now (store .entry)) place (now (siblings .entry)))
         × (now (siblings .exit) ≡ opened p set (now (store .entry)) place (now (siblings .entry))) ⌝ }
 {
-    let row = row_of_open(set, store, place, siblings);
-    if row != 0 {
-        return Outcome::Refused(row);
+    let number = refusal_of_open(set, store, place, siblings);
+    if number != 0 {
+        return Outcome::Refused(number);
     }
     let d = sets::dimensions(set);
     trees::open(d, store, place as usize, siblings);
@@ -49,8 +49,8 @@ pub fn open(set: ParameterSet, store: &[u64], place: u64, siblings: &mut [u64]) 
 }
 
 // Row 12 of three lists, or 0.
-fn row_of_words(root: &[u64], leaf: &[u64], siblings: &[u64]) -> u8
-    ensures { λ r. ⌜ r ≡ firstRow (notWords p (now (root .entry) ++ (now (leaf .entry) ++ now (siblings .entry))) ∷ []) ⌝ }
+fn refusal_of_words(root: &[u64], leaf: &[u64], siblings: &[u64]) -> u8
+    ensures { λ r. ⌜ r ≡ firstRefusal (notWords p (now (root .entry) ++ (now (leaf .entry) ++ now (siblings .entry))) ∷ []) ⌝ }
 {
     if !parameters::all_words(root) {
         return 12;
@@ -65,12 +65,18 @@ fn row_of_words(root: &[u64], leaf: &[u64], siblings: &[u64]) -> u8
 }
 
 // The first row that turns back a set, a root, a place, a leaf and siblings, or 0.
-fn row_of_verify(set: ParameterSet, root: &[u64], place: u64, leaf: &[u64], siblings: &[u64]) -> u8
-    ensures { λ r. ⌜ r ≡ firstRow (verifyRows p set (now (root .entry)) place (now (leaf .entry)) (now (siblings .entry))) ⌝ }
+fn refusal_of_verify(
+    set: ParameterSet,
+    root: &[u64],
+    place: u64,
+    leaf: &[u64],
+    siblings: &[u64],
+) -> u8
+    ensures { λ r. ⌜ r ≡ firstRefusal (verifyRefusals p set (now (root .entry)) place (now (leaf .entry)) (now (siblings .entry))) ⌝ }
 {
-    let row = state_entries::row_of(set);
-    if row != 0 {
-        return row;
+    let number = state_entries::refusal_of(set);
+    if number != 0 {
+        return number;
     }
     if root.len() as u64 != set.node_size {
         return 10;
@@ -84,7 +90,7 @@ fn row_of_verify(set: ParameterSet, root: &[u64], place: u64, leaf: &[u64], sibl
     if sets::places(set) as u64 <= place {
         return 11;
     }
-    row_of_words(root, leaf, siblings)
+    refusal_of_words(root, leaf, siblings)
 }
 
 // Whether a leaf with its siblings at a place ends in a root.
@@ -97,9 +103,9 @@ pub fn verify(
 ) -> Verdict
     ensures { λ r. ⌜ verdictReply r ≡ verifyReply p set (now (root .entry)) place (now (leaf .entry)) (now (siblings .entry)) ⌝ }
 {
-    let row = row_of_verify(set, root, place, leaf, siblings);
-    if row != 0 {
-        return Verdict::Refused(row);
+    let number = refusal_of_verify(set, root, place, leaf, siblings);
+    if number != 0 {
+        return Verdict::Refused(number);
     }
     let d = sets::dimensions(set);
     let diagonal = set.diagonal;

@@ -7,9 +7,9 @@ use native.Mathlib.Omega.{arith}
 use lib.Dec.{lit<}
 use lib.ListN.{length, length-drop}
 use Rattle.modular.specs.Goldilocks.{p}
-use Rattle.refusals.specs.Table.{firstRow}
+use Rattle.refusals.specs.Table.{firstRefusal}
 use Rattle.parameters.specs.declared.ParameterSet.{ParameterSet}
-use Rattle.parameters.specs.ParameterSet.{setRows}
+use Rattle.parameters.specs.ParameterSet.{setRefusals}
 use Rattle.parameters.proofs.Accepted.{Numbers}
 use Rattle.merkle.specs.Levels.{Regular, nodesBefore, start, size, build, root}
 use Rattle.merkle.specs.Storeless.{storelessRoot}
@@ -23,9 +23,9 @@ use Rattle.trees.proofs.Shapes.{regular}
 use Rattle.trees.specs.SetTrees.{dimensionsOf, treeOf, leafWords, storeWords}
 use Rattle.parameters.proofs.AcceptedSets as sets
 
-module _ (s : ParameterSet) (none : firstRow (setRows p s) ≡ 0) where
+module _ (s : ParameterSet) (none : firstRefusal (setRefusals p s) ≡ 0) where
   numbers : Numbers (s .width) (s .«node_size») (s .height) (s .«full_rounds») (s .«partial_rounds»)
-  unfolding setRows
+  unfolding setRefusals
   numbers = sets.numbers p _ _ _ _ _ (s .diagonal) (s .constants) (lit< tt) none
 
   pub size-positive : s .«node_size» ≡ 0 → ⊥
@@ -42,7 +42,7 @@ module _ (s : ParameterSet) (none : firstRow (setRows p s) ≡ 0) where
   width-is = omega (arith, div-add-mod' (s .width) (s .«node_size»), numbers .nodeSize .divides)
 
   pub valid-numbers : ValidNumbers (dimensionsOf s)
-  unfolding setRows
+  unfolding setRefusals
   valid-numbers = record {
     width = rw width-is (numbers .width);
     several = numbers .nodeSize .several;
@@ -54,7 +54,7 @@ module _ (s : ParameterSet) (none : firstRow (setRows p s) ≡ 0) where
   }
 
   pub valid-set : ValidSet (dimensionsOf s) (s .constants)
-  unfolding setRows
+  unfolding setRefusals
   valid-set = record {
     numbers = valid-numbers;
     words = rw width-is (sets.used-constants p _ _ _ _ _ (s .diagonal) (s .constants) (lit< tt) none);
@@ -81,17 +81,17 @@ module _ (s : ParameterSet) (none : firstRow (setRows p s) ≡ 0) where
       rw (numbered (treeOf p s) shape-regular .words (s .height)) (omega (arith, mul-le-mul-right (s .«node_size») one))
 
 -- merkle's laws of the set's tree
-pub laws : (s : ParameterSet) → firstRow (setRows p s) ≡ 0 → TreeLaws (treeOf p s)
+pub laws : (s : ParameterSet) → firstRefusal (setRefusals p s) ≡ 0 → TreeLaws (treeOf p s)
 laws s none = tree-laws (treeOf p s) (shape-regular s none)
 
 -- a root is a node, with a store and without
-pub root-long : (s : ParameterSet) → firstRow (setRows p s) ≡ 0 → (store : List ℕ) → length store ≡ storeWords p s → length (root (treeOf p s) store) ≡ s .«node_size»
+pub root-long : (s : ParameterSet) → firstRefusal (setRefusals p s) ≡ 0 → (store : List ℕ) → length store ≡ storeWords p s → length (root (treeOf p s) store) ≡ s .«node_size»
 unfolding root
 root-long s none store e =
     let l = node-in-store s none in
     length-drop (length store - s .«node_size») store ∙ omega arith
 
-pub storeless-long : (s : ParameterSet) → firstRow (setRows p s) ≡ 0 → (leaves : List ℕ) → length leaves ≡ leafWords p s
+pub storeless-long : (s : ParameterSet) → firstRefusal (setRefusals p s) ≡ 0 → (leaves : List ℕ) → length leaves ≡ leafWords p s
     → length (storelessRoot (treeOf p s) (s .height) leaves) ≡ s .«node_size»
 storeless-long s none leaves e =
     ap length (laws s none .storeless .agrees (s .height) leaves e)

@@ -16,7 +16,7 @@ use Rattle.poseidon2.proofs.Rounds.{sizes}
 use Rattle.merkle.specs.Levels.{Regular, KeepsWords}
 use Rattle.merkle.proofs.Levels.{fits}
 use Rattle.merkle.proofs.Openings.{but-one}
-use Rattle.parameters.specs.Rows.{constantCount}
+use Rattle.parameters.specs.Refusals.{constantCount}
 use Rattle.parameters.proofs.Accepted.{Numbers, width-fits}
 use Rattle.trees.specs.declared.Dimensions.{Dimensions}
 use Rattle.trees.specs.Shapes.{shapeOf, shape, dimensions, tree, ValidNumbers, ValidSet}

@@ -3,8 +3,8 @@ ghost use mathlib.Core.Path.{_≡_};
 ghost use Prim.Native.Nat.{_<_};
 ghost use lib.ListN.{length};
 ghost use Rattle.modular.specs.Goldilocks.{p};
-ghost use Rattle.refusals.specs.Table.{firstRow};
-ghost use Rattle.parameters.specs.ParameterSet.{setRows};
+ghost use Rattle.refusals.specs.Table.{firstRefusal};
+ghost use Rattle.parameters.specs.ParameterSet.{setRefusals};
 ghost use Rattle.merkle.specs.Openings.{siblingsAt};
 ghost use Rattle.trees.specs.SetTrees.{treeOf, dimensionsOf, leafCount, leafWords, storeWords, openingWords, partWords};
 use crate::Dimensions;
@@ -14,7 +14,7 @@ use parameters::ParameterSet;
 
 // The set's numbers as the tree's work uses them.
 pub fn dimensions(set: ParameterSet) -> Dimensions
-    requires { ⌜ firstRow (setRows p set) ≡ 0 ⌝ }
+    requires { ⌜ firstRefusal (setRefusals p set) ≡ 0 ⌝ }
     ensures { λ r. ⌜ r ≡ dimensionsOf set ⌝ }
 {
     Dimensions {
@@ -28,7 +28,7 @@ pub fn dimensions(set: ParameterSet) -> Dimensions
 
 // The places of the tree: k^h.
 pub fn places(set: ParameterSet) -> usize
-    requires { ⌜ firstRow (setRows p set) ≡ 0 ⌝ }
+    requires { ⌜ firstRefusal (setRefusals p set) ≡ 0 ⌝ }
     ensures { λ r. ⌜ r ≡ leafCount p set ⌝ }
 {
     let d = dimensions(set);
@@ -36,14 +36,14 @@ pub fn places(set: ParameterSet) -> usize
 }
 
 pub fn leaf_words(set: ParameterSet) -> usize
-    requires { ⌜ firstRow (setRows p set) ≡ 0 ⌝ }
+    requires { ⌜ firstRefusal (setRefusals p set) ≡ 0 ⌝ }
     ensures { λ r. ⌜ r ≡ leafWords p set ⌝ }
 {
     places(set) * set.node_size as usize
 }
 
 pub fn store_words(set: ParameterSet) -> usize
-    requires { ⌜ firstRow (setRows p set) ≡ 0 ⌝ }
+    requires { ⌜ firstRefusal (setRefusals p set) ≡ 0 ⌝ }
     ensures { λ r. ⌜ r ≡ storeWords p set ⌝ }
 {
     let d = dimensions(set);
@@ -51,7 +51,7 @@ pub fn store_words(set: ParameterSet) -> usize
 }
 
 pub fn opening_words(set: ParameterSet) -> usize
-    requires { ⌜ firstRow (setRows p set) ≡ 0 ⌝ }
+    requires { ⌜ firstRefusal (setRefusals p set) ≡ 0 ⌝ }
     ensures { λ r. ⌜ r ≡ openingWords p set ⌝ }
 {
     let d = dimensions(set);
@@ -59,7 +59,7 @@ pub fn opening_words(set: ParameterSet) -> usize
 }
 
 pub fn part_words(set: ParameterSet) -> usize
-    requires { ⌜ firstRow (setRows p set) ≡ 0 ⌝ }
+    requires { ⌜ firstRefusal (setRefusals p set) ≡ 0 ⌝ }
     ensures { λ r. ⌜ r ≡ partWords p set ⌝ }
 {
     let d = dimensions(set);
@@ -68,7 +68,7 @@ pub fn part_words(set: ParameterSet) -> usize
 
 // The part of one level of an opening.
 pub fn level_words<'a>(set: ParameterSet, siblings: &'a [u64], level: u64) -> &'a [u64]
-    requires { ⌜ (firstRow (setRows p set) ≡ 0) × (length (now siblings) ≡ openingWords p set) × (level < set .height) ⌝ }
+    requires { ⌜ (firstRefusal (setRefusals p set) ≡ 0) × (length (now siblings) ≡ openingWords p set) × (level < set .height) ⌝ }
     ensures { λ r. ⌜ now r ≡ siblingsAt (treeOf p set) (now (siblings .entry)) level ⌝ }
 {
     let d = dimensions(set);

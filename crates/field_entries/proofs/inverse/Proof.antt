@@ -7,7 +7,7 @@ use borrow.Author.Needs.{needs}
 use borrow.Author.Tests.{eq-eqb, ne-eqb}
 use Rattle.modular.specs.Arithmetic.{inverse}
 use Rattle.modular.specs.Goldilocks.{p}
-use Rattle.refusals.specs.Table.{row, done}
+use Rattle.refusals.specs.Table.{refusal, done}
 use Rattle.refusals.proofs.Table.{all-passed, applied, passed}
 use Rattle.field_entries.specs.Arithmetic.{replyOf, inverseReply}
 use Rattle.field_entries.proofs.Operands.{operand-refused, operand-passed}
@@ -18,13 +18,13 @@ returns : tie.Need-returns
 unfolding replyOf inverseReply
 returns c =
     let x = c .before .args .x in
-    sym (operand-refused p x (row 13 (eqb x 0) ∷ []) (inverse p x ∷ []) (c .if1 .taken))
+    sym (operand-refused p x (refusal 13 (eqb x 0) ∷ []) (inverse p x ∷ []) (c .if1 .taken))
 
 returns-2 : tie.Need-returns-2
 unfolding replyOf inverseReply
 returns-2 c =
     let x = c .before .before .args .x in
-    sym (operand-passed p x (row 13 (eqb x 0) ∷ []) (inverse p x ∷ []) (omega arith) ∙ applied 13 (eqb x 0) [] (inverse p x ∷ []) (eq-eqb x 0 (c .if2 .taken)))
+    sym (operand-passed p x (refusal 13 (eqb x 0) ∷ []) (inverse p x ∷ []) (omega arith) ∙ applied 13 (eqb x 0) [] (inverse p x ∷ []) (eq-eqb x 0 (c .if2 .taken)))
 
 inverse-requires : tie.Need-inverse-requires
 inverse-requires c κs = search needs
@@ -34,7 +34,7 @@ unfolding replyOf inverseReply
 returns-3 c =
     let x = c .before .before .before .args .x in
     ap (λ (y : ℕ). done (y ∷ [])) (c .inverse .ensures)
-    ∙ sym (operand-passed p x (row 13 (eqb x 0) ∷ []) (inverse p x ∷ []) (omega arith)
+    ∙ sym (operand-passed p x (refusal 13 (eqb x 0) ∷ []) (inverse p x ∷ []) (omega arith)
     ∙ passed 13 (eqb x 0) [] (inverse p x ∷ []) (ne-eqb x 0 (c .before .if2 .left))
     ∙ all-passed (inverse p x ∷ []))
 

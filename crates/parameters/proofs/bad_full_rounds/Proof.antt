@@ -1,5 +1,5 @@
 use borrow.Author.Tests.{eq-eqb, ne-eqb, lt-ltb, le-ltb}
-use Rattle.parameters.specs.Rows.{badFullRounds}
+use Rattle.parameters.specs.Refusals.{badFullRounds}
 use Rattle.parameters.proofs.bad_full_rounds.Statement.{statement}
 use Rattle.parameters.proofs.bad_full_rounds.Tie as tie
 

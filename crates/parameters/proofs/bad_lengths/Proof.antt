@@ -2,7 +2,7 @@ use Prim.Native.Nat.{_*_}
 use native.Mathlib.Nat.{mul-le-mul}
 use native.Mathlib.Omega.{arith}
 use borrow.Author.Tests.{eq-eqb, ne-eqb}
-use Rattle.parameters.specs.Rows.{constantCount, badLengths}
+use Rattle.parameters.specs.Refusals.{constantCount, badLengths}
 use Rattle.parameters.proofs.bad_lengths.Statement.{statement}
 use Rattle.parameters.proofs.bad_lengths.Tie as tie
 

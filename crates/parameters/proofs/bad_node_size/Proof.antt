@@ -1,5 +1,5 @@
 use borrow.Author.Tests.{eq-eqb, ne-eqb, lt-ltb, le-ltb}
-use Rattle.parameters.specs.Rows.{badNodeSize}
+use Rattle.parameters.specs.Refusals.{badNodeSize}
 use borrow.Author.Needs.{needs}
 use Rattle.parameters.proofs.bad_node_size.Statement.{statement}
 use Rattle.parameters.proofs.bad_node_size.Tie as tie

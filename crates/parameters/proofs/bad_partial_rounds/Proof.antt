@@ -1,5 +1,5 @@
 use borrow.Author.Tests.{lt-ltb, le-ltb}
-use Rattle.parameters.specs.Rows.{badPartialRounds}
+use Rattle.parameters.specs.Refusals.{badPartialRounds}
 use Rattle.parameters.proofs.bad_partial_rounds.Statement.{statement}
 use Rattle.parameters.proofs.bad_partial_rounds.Tie as tie
 

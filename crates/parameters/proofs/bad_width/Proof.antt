@@ -1,5 +1,5 @@
 use borrow.Author.Tests.{eq-eqb, ne-eqb}
-use Rattle.parameters.specs.Rows.{badWidth}
+use Rattle.parameters.specs.Refusals.{badWidth}
 use Rattle.parameters.proofs.bad_width.Statement.{statement}
 use Rattle.parameters.proofs.bad_width.Tie as tie
 

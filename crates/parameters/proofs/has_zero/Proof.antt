@@ -3,7 +3,7 @@ use Prim.Native.Nat.{_-_, _≤_}
 use native.Mathlib.Omega.{arith}
 use borrow.Author.Needs.{needs}
 use lib.ListN.{length, drop}
-use Rattle.parameters.specs.Rows.{hasZero}
+use Rattle.parameters.specs.Refusals.{hasZero}
 use Rattle.parameters.proofs.Lists.{zero-on, zero-stop, zero-end}
 use Rattle.parameters.proofs.has_zero.Statement.{statement}
 use Rattle.parameters.proofs.has_zero.Tie as tie

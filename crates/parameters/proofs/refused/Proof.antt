@@ -1,10 +1,10 @@
 use mathlib.Core.Path.{refl}
-use Rattle.parameters.specs.ParameterSet.{refusal}
+use Rattle.parameters.specs.ParameterSet.{refusedValidation}
 use Rattle.parameters.proofs.refused.Statement.{statement}
 use Rattle.parameters.proofs.refused.Tie as tie
 
 returns : tie.Need-returns
-unfolding refusal
+unfolding refusedValidation
 returns c = refl
 
 pub refused-spec : {M : Type 1} → statement M

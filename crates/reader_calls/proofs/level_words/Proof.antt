@@ -43,14 +43,14 @@ use Rattle.modular.specs.Goldilocks.{p}
 use Rattle.parameters.specs.declared.ParameterSet.{ParameterSet}
 use Rattle.parameters.proofs.ParameterSet as sets
 use Rattle.parameters.proofs.ParameterSet.Laws as sets′
-use Rattle.readers.specs.declared.reading.Part.{Part}
-use Rattle.readers.specs.Readers.{partReply, readReply, readWords}
-use Rattle.readers.proofs.reading.Part as parts
-use Rattle.readers.proofs.reading.Part.Laws as parts′
-use Rattle.readers.proofs.reading.read_level as reading
-use Rattle.readers.proofs.reading.read_level.Symbol as reading-def
-use Rattle.readers.proofs.reading.read_level.Symbol.{name as #reading}
-use Rattle.readers.proofs.reading.read_level.Met as reading-met
+use Rattle.reader_entries.specs.declared.reading.Part.{Part}
+use Rattle.reader_entries.specs.Readers.{partReply, readReply, readWords}
+use Rattle.reader_entries.proofs.reading.Part as parts
+use Rattle.reader_entries.proofs.reading.Part.Laws as parts′
+use Rattle.reader_entries.proofs.reading.read_level as reading
+use Rattle.reader_entries.proofs.reading.read_level.Symbol as reading-def
+use Rattle.reader_entries.proofs.reading.read_level.Symbol.{name as #reading}
+use Rattle.reader_entries.proofs.reading.read_level.Met as reading-met
 use Rattle.reader_calls.proofs.level_words as all
 use Rattle.reader_calls.proofs.level_words.Key.{name as #level-words}
 use Rattle.reader_calls.proofs.level_words.Statement as stated
@@ -118,13 +118,13 @@ module _ {M : Type 1} (𝓤 : URA M) (H : Heap 𝓤) (A : Atoms 𝓤) (W : Given
   goes-reading = qed W ((‵ (flft κ q) ⊛ ‵ ftrue) ∷ ‵ (owns (sets.the-row ∷ ShrSlice (named 0) κ u64 ∷ u64 ∷ []) args vals) ∷ []) ∵ join ! $ frame ! $ done !
 
   abbrev IsPart : Part → Type 0
-  IsPart r = (partReply (r .row) (now (r .words)) ≡ readReply p s (now x) j) × (now (r .words) ≡ readWords p s (now x) j)
+  IsPart r = (partReply (r .number) (now (r .words)) ≡ readReply p s (now x) j) × (now (r .words) ≡ readWords p s (now x) j)
 
   reading-said : (r : Part) → ent 𝓤 (ensured 𝓤 H A reading.ended (reading.clauses 𝓤 H A mem run) (κ, tt) args tt r) (fact 𝓤 (IsPart r))
   reading-said r = exE 𝓤 _ (λ ends. snd∗ 𝓤 (sem 𝓤 H A (lasts reading.ended (κ, tt) args ends)) (fact 𝓤 (IsPart r)))
 
   abbrev fields : Part → Values (parts.the-type α .parts)
-  fields r = (r .words, (r .row, tt))
+  fields r = (r .words, (r .number, tt))
 
   exits : (r : RefT (List ℕ)) → now r ≡ readWords p s (now x) j → ent 𝓤 (⋆ 𝓤 H A ((‵ (flft κ q) ⊛ ‵ ftrue) ∷ ‵ (ShrSlice (named 0) κ u64 .own r (slice-vals r)) ∷ [])) (Post (only (slice-vals r)))
   exits r e =
@@ -177,4 +177,4 @@ level-words-spec 𝓤 H 𝓜 𝓖 𝓡 =
     entered 𝓤 H (tripleOf 𝓤 H (𝓖 .A) all.signature (all.spec 𝓤 H (𝓖 .A) (𝓜 .mem) (𝓡 .run)))
     (tables 𝓤 H 𝓜 𝓡 code.env .C) (tables 𝓤 H 𝓜 𝓡 code.env .Λ) #level-words code.function (code.unfolded 𝓤 H 𝓜 𝓡)
     (all-meets 𝓤 H (𝓖 .A) (givenOf 𝓤 H 𝓜 𝓖) (𝓜 .mem) (𝓡 .run) (tablesOf 𝓤 H 𝓜 (tables 𝓤 H 𝓜 𝓡 code.env))
-    (cited 𝓤 H (Reading 𝓤 H (𝓖 .A) (𝓜 .mem) (𝓡 .run)) 𝓜 𝓡 code.env #reading reading-def.routine code.calls-readers·reading·read-level (reading-met.met 𝓤 H 𝓜 𝓖 𝓡)))
+    (cited 𝓤 H (Reading 𝓤 H (𝓖 .A) (𝓜 .mem) (𝓡 .run)) 𝓜 𝓡 code.env #reading reading-def.routine code.calls-reader-entries·reading·read-level (reading-met.met 𝓤 H 𝓜 𝓖 𝓡)))

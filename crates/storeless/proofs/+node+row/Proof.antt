@@ -4,7 +4,7 @@ use Prim.Native.Nat.{suc, _+_, _*_, _-_}
 use native.Mathlib.Omega.{arith}
 use lib.ListN.{replicate}
 use Rattle.trees.proofs.Shapes.{arity-small, node-small}
-use Rattle.storeless.proofs.Recursion.{at-leaf, at-leaves, at-row, at-fewer, at-last, place-small, row-fits, in-row, node-leaf, node-row, row-leaves, row-none, row-more}
+use Rattle.storeless.proofs.Recursion.{at-leaf, at-leaves, at-row, at-fewer, at-last, place-small, row-fits, in-row, node-leaf, node-row, row-leaves, refusal-none, row-more}
 use Prim.Native.Nat.{ℕ, _<_}
 use borrow.Fn.Kinds.{In}
 use borrow.Fn.PlainCycle.{Measures, is, falls, and}
@@ -182,7 +182,7 @@ row-returns-2 : (t : ℕ) → row-lts.Need-returns-2 (
 ) (row-at t) row.Post
 row-returns-2 t c =
     let a = c .before .before .before .args in
-    row-none (a .d) (a .diagonal .now) (a .constants .now) (a .leaves .now) (a .level) (a .first) (replicate 12 0) (c .if2 .taken)
+    refusal-none (a .d) (a .diagonal .now) (a .constants .now) (a .leaves .now) (a .level) (a .first) (replicate 12 0) (c .if2 .taken)
 
 row-sub-m : (t : ℕ) → row-lts.Need-sub-m (
   leaf-row-reads.Asked,

@@ -7,19 +7,19 @@ use Rattle.push_entries.proofs.Early.{early-set, early-ten, early-none,
 use Rattle.push_entries.proofs.ends.begin.Statement.{statement}
 use Rattle.push_entries.proofs.ends.begin.Tie as tie
 
-row-of-requires : tie.Need-row-of-requires
-row-of-requires c κs = search needs
+refusal-of-requires : tie.Need-refusal-of-requires
+refusal-of-requires c κs = search needs
 
 turned-back-requires : tie.Need-turned-back-requires
 turned-back-requires c κs = search needs
 
 returns : tie.Need-returns
 returns c =
-    let e = c .before .before .row-of .ensures in
+    let e = c .before .before .refusal-of .ensures in
     c .turned-back .ensures ∙ begin-refused _ _ _ _ (c .before .if1 .taken) (early-set _ _ _ (λ z. c .before .if1 .taken (e ∙ z)) ∙ sym e)
 
 store-words-requires : tie.Need-store-words-requires
-store-words-requires c κs = sym (c .before .row-of .ensures) ∙ c .if1 .left
+store-words-requires c κs = sym (c .before .refusal-of .ensures) ∙ c .if1 .left
 
 turned-back-requires-2 : tie.Need-turned-back-requires-2
 turned-back-requires-2 c κs = search needs
@@ -27,7 +27,7 @@ turned-back-requires-2 c κs = search needs
 returns-2 : tie.Need-returns-2
 returns-2 c =
     let n = c .before in
-    let none = sym (n .before .before .before .row-of .ensures) ∙ n .before .before .if1 .left in
+    let none = sym (n .before .before .before .refusal-of .ensures) ∙ n .before .before .if1 .left in
     c .turned-back2 .ensures
     ∙ begin-refused _ _ _ 10 (λ z. absurd (omega arith)) (early-ten _ _ _ none (first-bad _ _ (ne-eqb _ _ (λ z. n .if2 .taken (z ∙ sym (n .before .store-words .ensures))))))
 
@@ -38,12 +38,12 @@ returns-3 : tie.Need-returns-3
 returns-3 c =
     let m = c .before in
     let n = m .before in
-    let none = sym (n .before .before .before .row-of .ensures) ∙ n .before .before .if1 .left in
+    let none = sym (n .before .before .before .refusal-of .ensures) ∙ n .before .before .if1 .left in
     c .turned-back3 .ensures
     ∙ begin-refused _ _ _ 10 (λ z. absurd (omega arith)) (early-ten _ _ _ none (second-bad _ _ (eq-eqb _ _ (n .if2 .left ∙ n .before .store-words .ensures)) (lt-leb _ _ (m .if3 .taken))))
 
 places-requires : tie.Need-places-requires
-places-requires c κs = sym (c .before .before .before .before .row-of .ensures) ∙ c .before .before .before .if1 .left
+places-requires c κs = sym (c .before .before .before .before .refusal-of .ensures) ∙ c .before .before .before .if1 .left
 
 all-words-requires : tie.Need-all-words-requires
 all-words-requires c κs = search needs
@@ -52,14 +52,14 @@ returns-4 : tie.Need-returns-4
 returns-4 c =
     let m = c .before .before in
     let n = m .before in
-    let none = sym (n .before .before .before .row-of .ensures) ∙ n .before .before .if1 .left in
+    let none = sym (n .before .before .before .refusal-of .ensures) ∙ n .before .before .if1 .left in
     begin-clear _ _ _ _ _ (c .before .places .ensures) (c .all-words .ensures) (early-none _ _ _ none (both-good _ _ (eq-eqb _ _ (n .if2 .left ∙ n .before .store-words .ensures)) (le-leb _ _ (m .if3 .left))))
 
 pub begin-spec : {M : Type 1} → statement M
 begin-spec =
     tie.close
     (tie.spec
-    row-of-requires
+    refusal-of-requires
     turned-back-requires
     returns
     store-words-requires

@@ -4,12 +4,12 @@ use Rattle.push_entries.proofs.Listed.{part-is-refused, early-is-refuse
 use Rattle.push_entries.proofs.pushing.push_listed.Statement.{statement}
 use Rattle.push_entries.proofs.pushing.push_listed.Tie as tie
 
-row-of-part-requires : tie.Need-row-of-part-requires
-row-of-part-requires c κs = search needs
+refusal-of-part-requires : tie.Need-refusal-of-part-requires
+refusal-of-part-requires c κs = search needs
 
 returns : tie.Need-returns
 unfolding changedReply
-returns c = part-is-refused _ _ _ (c .before .if1 .taken) _ (c .row-of-part .ensures)
+returns c = part-is-refused _ _ _ (c .before .if1 .taken) _ (c .refusal-of-part .ensures)
 
 begin-requires : tie.Need-begin-requires
 begin-requires c κs = search needs
@@ -54,7 +54,7 @@ pub push-listed-spec : {M : Type 1} → statement M
 push-listed-spec =
     tie.close
     (tie.spec
-    row-of-part-requires
+    refusal-of-part-requires
     returns
     begin-requires
     same-length

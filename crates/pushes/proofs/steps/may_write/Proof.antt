@@ -20,7 +20,7 @@ returns : tie.Need-returns
 unfolding mayWrite
 returns c =
     let t : Tally = c .before .before .before .before .before .args .tally in
-    c .both3 .ensures ∙ ap (λ (b : Bool). eqb (t .row) 0 && b) (c .before .both2 .ensures ∙ ap (λ (b : Bool). t .placed && b) (c .before .before .both .ensures))
+    c .both3 .ensures ∙ ap (λ (b : Bool). eqb (t .number) 0 && b) (c .before .both2 .ensures ∙ ap (λ (b : Bool). t .placed && b) (c .before .before .both .ensures))
 
 pub may-write-spec : {M : Type 1} → statement M
 may-write-spec = tie.close (tie.spec both-requires both-requires-2 both-requires-3 returns)

@@ -26,8 +26,8 @@ unfolding testOf
 returns-2 c =
     let t : Tally = c .before .before .before .before .before .before .before .before .args .tally in
     let words = c .both2 .ensures ∙ ap (λ (w : Bool). t .words && w) (c .before .leaf-is-words .ensures) in
-    rw (eq-eqb (t .row) 0 (c .before .before .before .before .before .before .if1 .left))
-    (λ i. record { row = 0; places = t .places; placed = c .before .before .both .ensures i; words = words i; made = t .made })
+    rw (eq-eqb (t .number) 0 (c .before .before .before .before .before .before .if1 .left))
+    (λ i. record { number = 0; places = t .places; placed = c .before .before .both .ensures i; words = words i; made = t .made })
 
 pub test-record-spec : {M : Type 1} → statement M
 test-record-spec =

@@ -7,32 +7,32 @@ use Rattle.modular.specs.Goldilocks.{p}
 use Rattle.modular.proofs.Goldilocks.{goldilocks}
 use Rattle.poseidon2.proofs.Rounds.{claims}
 use Rattle.refusals.proofs.Table.{refused-equations, done-equations}
-use Rattle.state_entries.specs.Permutation.{outcomeReply, compressRows, compressReply, compressUnder, compressed}
+use Rattle.state_entries.specs.Permutation.{outcomeReply, compressRefusals, compressReply, compressUnder, compressed}
 use Rattle.state_entries.proofs.AcceptedStates.{accepted-compression, compression-numbered}
 use Rattle.state_entries.proofs.states.compress.Statement.{statement}
 use Rattle.state_entries.proofs.states.compress.Tie as tie
 
-row-of-compression-requires : tie.Need-row-of-compression-requires
-row-of-compression-requires c κs = search needs
+refusal-of-compression-requires : tie.Need-refusal-of-compression-requires
+refusal-of-compression-requires c κs = search needs
 
 same-length : tie.Need-same-length
 same-length c = search needs
 
 returns : tie.Need-returns
 unfolding outcomeReply compressReply compressed
-returns c = refused-equations (compressRows p _ _ _) [] _ _ _ (c .before .row-of-compression .ensures) (c .if1 .taken)
+returns c = refused-equations (compressRefusals p _ _ _) [] _ _ _ (c .before .refusal-of-compression .ensures) (c .if1 .taken)
 
 compress-requires : tie.Need-compress-requires
 compress-requires c κs =
     let r = c .before .before .before .before .before .before in
-    let A = accepted-compression p _ _ _ (lit< tt) (sym (r .before .row-of-compression .ensures) ∙ r .if1 .left) in
+    let A = accepted-compression p _ _ _ (lit< tt) (sym (r .before .refusal-of-compression .ensures) ∙ r .if1 .left) in
     (A .state .width, A .node-fits, A .state .half-some, A .state .half-few, A .state .partial-few, A .state .constants, A .state .long, A .node-long)
 
 same-length-2 : tie.Need-same-length-2
 same-length-2 c =
     let w = c .before .before in
     let r = w .before .before .before .before .before .before .before in
-    let A = accepted-compression p _ _ _ (lit< tt) (sym (r .before .row-of-compression .ensures) ∙ r .if1 .left) in
+    let A = accepted-compression p _ _ _ (lit< tt) (sym (r .before .refusal-of-compression .ensures) ∙ r .if1 .left) in
     ap length (w .compress .ensures) ∙ claims p goldilocks .sizes .compression _ _ _ _ _ _ _ (A .state .width) (A .state .long) (A .node-fits) .width ∙ sym (A .node-long)
 
 returns-2 : tie.Need-returns-2
@@ -40,10 +40,10 @@ unfolding outcomeReply compressReply compressed compressUnder
 returns-2 c =
     let w = c .before .before in
     let r = w .before .before .before .before .before .before .before in
-    let d = done-equations (compressRows p _ _ _) [] _ _ (compression-numbered p _ _ _) (sym (r .before .row-of-compression .ensures) ∙ r .if1 .left) in
+    let d = done-equations (compressRefusals p _ _ _) [] _ _ (compression-numbered p _ _ _) (sym (r .before .refusal-of-compression .ensures) ∙ r .if1 .left) in
     (d .0, w .compress .ensures ∙ d .1)
 
 pub compress-spec : {M : Type 1} → statement M
 compress-spec =
     tie.close
-    (tie.spec row-of-compression-requires same-length returns compress-requires same-length-2 returns-2)
+    (tie.spec refusal-of-compression-requires same-length returns compress-requires same-length-2 returns-2)

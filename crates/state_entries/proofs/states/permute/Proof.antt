@@ -7,32 +7,32 @@ use Rattle.modular.specs.Goldilocks.{p}
 use Rattle.modular.proofs.Goldilocks.{goldilocks}
 use Rattle.poseidon2.proofs.Rounds.{claims}
 use Rattle.refusals.proofs.Table.{refused-equations, done-equations}
-use Rattle.state_entries.specs.Permutation.{outcomeReply, stateRows, stateReply, permuteUnder, permuted}
+use Rattle.state_entries.specs.Permutation.{outcomeReply, stateRefusals, stateReply, permuteUnder, permuted}
 use Rattle.state_entries.proofs.AcceptedStates.{accepted, state-numbered}
 use Rattle.state_entries.proofs.states.permute.Statement.{statement}
 use Rattle.state_entries.proofs.states.permute.Tie as tie
 
-row-of-state-requires : tie.Need-row-of-state-requires
-row-of-state-requires c κs = search needs
+refusal-of-state-requires : tie.Need-refusal-of-state-requires
+refusal-of-state-requires c κs = search needs
 
 same-length : tie.Need-same-length
 same-length c = search needs
 
 returns : tie.Need-returns
 unfolding outcomeReply stateReply permuted
-returns c = refused-equations (stateRows p _ _) [] _ _ _ (c .before .row-of-state .ensures) (c .if1 .taken)
+returns c = refused-equations (stateRefusals p _ _) [] _ _ _ (c .before .refusal-of-state .ensures) (c .if1 .taken)
 
 permute-requires : tie.Need-permute-requires
 permute-requires c κs =
     let r = c .before .before .before .before .before .before in
-    let A = accepted p _ _ (lit< tt) (sym (r .before .row-of-state .ensures) ∙ r .if1 .left) in
+    let A = accepted p _ _ (lit< tt) (sym (r .before .refusal-of-state .ensures) ∙ r .if1 .left) in
     (A .width, A .half-some, A .half-few, A .partial-few, A .constants, A .long)
 
 same-length-2 : tie.Need-same-length-2
 same-length-2 c =
     let w = c .before .before in
     let r = w .before .before .before .before .before .before .before in
-    let A = accepted p _ _ (lit< tt) (sym (r .before .row-of-state .ensures) ∙ r .if1 .left) in
+    let A = accepted p _ _ (lit< tt) (sym (r .before .refusal-of-state .ensures) ∙ r .if1 .left) in
     ap length (w .permute .ensures) ∙ claims p goldilocks .sizes .permutation _ _ _ _ _ _ (A .width) (A .long) .width ∙ sym (A .long)
 
 returns-2 : tie.Need-returns-2
@@ -40,10 +40,10 @@ unfolding outcomeReply stateReply permuted permuteUnder
 returns-2 c =
     let w = c .before .before in
     let r = w .before .before .before .before .before .before .before in
-    let d = done-equations (stateRows p _ _) [] _ _ (state-numbered p _ _) (sym (r .before .row-of-state .ensures) ∙ r .if1 .left) in
+    let d = done-equations (stateRefusals p _ _) [] _ _ (state-numbered p _ _) (sym (r .before .refusal-of-state .ensures) ∙ r .if1 .left) in
     (d .0, w .permute .ensures ∙ d .1)
 
 pub permute-spec : {M : Type 1} → statement M
 permute-spec =
     tie.close
-    (tie.spec row-of-state-requires same-length returns permute-requires same-length-2 returns-2)
+    (tie.spec refusal-of-state-requires same-length returns permute-requires same-length-2 returns-2)

@@ -5,24 +5,24 @@ use Rattle.modular.specs.Goldilocks.{p}
 use Rattle.refusals.proofs.Table.{refused-equations, done-equations}
 use lib.ListN.{length}
 use Rattle.state_entries.specs.Permutation.{outcomeReply}
-use Rattle.tree_entries.specs.Trees.{buildRows, buildReply, built}
+use Rattle.tree_entries.specs.Trees.{buildRefusals, buildReply, built}
 use Rattle.trees.proofs.SetTrees as tree-of
 use Rattle.tree_entries.proofs.AcceptedTrees as trees
 use Rattle.tree_entries.proofs.building.build.Statement.{statement}
 use Rattle.tree_entries.proofs.building.build.Tie as tie
 
-row-of-build-requires : tie.Need-row-of-build-requires
-row-of-build-requires c κs = search needs
+refusal-of-build-requires : tie.Need-refusal-of-build-requires
+refusal-of-build-requires c κs = search needs
 
 same-length : tie.Need-same-length
 same-length c = search needs
 
 returns : tie.Need-returns
 unfolding outcomeReply buildReply built
-returns c = refused-equations (buildRows p _ _ _) [] _ _ _ (c .before .row-of-build .ensures) (c .if1 .taken)
+returns c = refused-equations (buildRefusals p _ _ _) [] _ _ _ (c .before .refusal-of-build .ensures) (c .if1 .taken)
 
 passed : (c : tie.Else1) → trees.Built (c .before .before .before .before .before .args .set) (c .before .before .before .before .before .args .leaves .now) (c .before .before .before .before .before .args .store .now)
-passed c = trees.build-passed _ _ _ (sym (c .before .row-of-build .ensures) ∙ c .if1 .left)
+passed c = trees.build-passed _ _ _ (sym (c .before .refusal-of-build .ensures) ∙ c .if1 .left)
 
 dimensions-requires : tie.Need-dimensions-requires
 dimensions-requires c κs = passed c .set
@@ -45,14 +45,14 @@ unfolding outcomeReply buildReply built
 returns-2 c =
     let w = c .before .before in
     let d = w .before .before .before .before .before .before in
-    let e = done-equations (buildRows p _ _ _) [] _ _ (trees.build-numbered _ _ _) (sym (d .before .before .row-of-build .ensures) ∙ d .before .if1 .left) in
+    let e = done-equations (buildRefusals p _ _ _) [] _ _ (trees.build-numbered _ _ _) (sym (d .before .before .refusal-of-build .ensures) ∙ d .before .if1 .left) in
     (e .0, (rw (d .dimensions .ensures) at (w .build .ensures)) ∙ e .1)
 
 pub build-spec : {M : Type 1} → statement M
 build-spec =
     tie.close
     (tie.spec
-    row-of-build-requires
+    refusal-of-build-requires
     same-length
     returns
     dimensions-requires

@@ -5,24 +5,24 @@ use Rattle.modular.specs.Goldilocks.{p}
 use Rattle.refusals.proofs.Table.{refused-equations, done-equations}
 use lib.ListN.{length}
 use Rattle.state_entries.specs.Permutation.{outcomeReply}
-use Rattle.tree_entries.specs.Trees.{storelessRows, storelessReply, storelessRooted}
+use Rattle.tree_entries.specs.Trees.{storelessRefusals, storelessReply, storelessRooted}
 use Rattle.trees.proofs.SetTrees as tree-of
 use Rattle.tree_entries.proofs.AcceptedTrees as trees
 use Rattle.tree_entries.proofs.building.storeless_root.Statement.{statement}
 use Rattle.tree_entries.proofs.building.storeless_root.Tie as tie
 
-row-of-storeless-requires : tie.Need-row-of-storeless-requires
-row-of-storeless-requires c κs = search needs
+refusal-of-storeless-requires : tie.Need-refusal-of-storeless-requires
+refusal-of-storeless-requires c κs = search needs
 
 same-length : tie.Need-same-length
 same-length c = search needs
 
 returns : tie.Need-returns
 unfolding outcomeReply storelessReply storelessRooted
-returns c = refused-equations (storelessRows p _ _ _) [] _ _ _ (c .before .row-of-storeless .ensures) (c .if1 .taken)
+returns c = refused-equations (storelessRefusals p _ _ _) [] _ _ _ (c .before .refusal-of-storeless .ensures) (c .if1 .taken)
 
 passed : (c : tie.Else1) → trees.StorelessRooted (c .before .before .before .before .before .args .set) (c .before .before .before .before .before .args .leaves .now) (c .before .before .before .before .before .args .node .now)
-passed c = trees.storeless-passed _ _ _ (sym (c .before .row-of-storeless .ensures) ∙ c .if1 .left)
+passed c = trees.storeless-passed _ _ _ (sym (c .before .refusal-of-storeless .ensures) ∙ c .if1 .left)
 
 dimensions-requires : tie.Need-dimensions-requires
 dimensions-requires c κs = passed c .set
@@ -45,14 +45,14 @@ unfolding outcomeReply storelessReply storelessRooted
 returns-2 c =
     let w = c .before .before in
     let d = w .before .before .before .before .before .before in
-    let e = done-equations (storelessRows p _ _ _) [] _ _ (trees.storeless-numbered _ _ _) (sym (d .before .before .row-of-storeless .ensures) ∙ d .before .if1 .left) in
+    let e = done-equations (storelessRefusals p _ _ _) [] _ _ (trees.storeless-numbered _ _ _) (sym (d .before .before .refusal-of-storeless .ensures) ∙ d .before .if1 .left) in
     (e .0, (rw (d .dimensions .ensures) at (w .storeless-root .ensures)) ∙ e .1)
 
 pub storeless-root-spec : {M : Type 1} → statement M
 storeless-root-spec =
     tie.close
     (tie.spec
-    row-of-storeless-requires
+    refusal-of-storeless-requires
     same-length
     returns
     dimensions-requires

@@ -6,24 +6,24 @@ use Rattle.refusals.proofs.Table.{refused-equations, done-equations}
 use lib.ListN.{length}
 use Rattle.trees.proofs.SetTrees.{same-size}
 use Rattle.state_entries.specs.Permutation.{outcomeReply}
-use Rattle.tree_entries.specs.Trees.{openRows, openReply, opened}
+use Rattle.tree_entries.specs.Trees.{openRefusals, openReply, opened}
 use Rattle.trees.proofs.SetTrees as tree-of
 use Rattle.tree_entries.proofs.AcceptedTrees as trees
 use Rattle.tree_entries.proofs.openings.open.Statement.{statement}
 use Rattle.tree_entries.proofs.openings.open.Tie as tie
 
-row-of-open-requires : tie.Need-row-of-open-requires
-row-of-open-requires c κs = search needs
+refusal-of-open-requires : tie.Need-refusal-of-open-requires
+refusal-of-open-requires c κs = search needs
 
 same-length : tie.Need-same-length
 same-length c = search needs
 
 returns : tie.Need-returns
 unfolding outcomeReply openReply opened
-returns c = refused-equations (openRows p _ _ _ _) [] _ _ _ (c .before .row-of-open .ensures) (c .if1 .taken)
+returns c = refused-equations (openRefusals p _ _ _ _) [] _ _ _ (c .before .refusal-of-open .ensures) (c .if1 .taken)
 
 passed : (c : tie.Else1) → trees.Opened (c .before .before .before .before .before .args .set) (c .before .before .before .before .before .args .store .now) (c .before .before .before .before .before .args .place) (c .before .before .before .before .before .args .siblings .now)
-passed c = trees.open-passed _ _ _ _ (sym (c .before .row-of-open .ensures) ∙ c .if1 .left)
+passed c = trees.open-passed _ _ _ _ (sym (c .before .refusal-of-open .ensures) ∙ c .if1 .left)
 
 dimensions-requires : tie.Need-dimensions-requires
 dimensions-requires c κs = passed c .set
@@ -48,14 +48,14 @@ returns-2 c =
     let w = c .before .before in
     let d = w .before .before in
     let s = d .before .before .before .before .before .before .args .set in
-    let e = done-equations (openRows p _ _ _ _) [] _ _ (trees.open-numbered _ _ _ _) (sym (d .before .before .row-of-open .ensures) ∙ d .before .if1 .left) in
+    let e = done-equations (openRefusals p _ _ _ _) [] _ _ (trees.open-numbered _ _ _ _) (sym (d .before .before .refusal-of-open .ensures) ∙ d .before .if1 .left) in
     (e .0, (rw (d .dimensions .ensures) at (w .«open» .ensures (s .diagonal) (s .constants))) ∙ e .1)
 
 pub open-spec : {M : Type 1} → statement M
 open-spec =
     tie.close
     (tie.spec
-    row-of-open-requires
+    refusal-of-open-requires
     same-length
     returns
     dimensions-requires

@@ -5,23 +5,23 @@ use borrow.Author.Needs.{needs}
 use Rattle.modular.specs.Goldilocks.{p}
 use Rattle.refusals.specs.Table.{refused, done}
 use Rattle.refusals.proofs.Table.{reply-refused, reply-done}
-use Rattle.tree_entries.specs.Trees.{verdictReply, verifyRows, verifyReply}
+use Rattle.tree_entries.specs.Trees.{verdictReply, verifyRefusals, verifyReply}
 use Rattle.trees.proofs.SetTrees as tree-of
 use Rattle.tree_entries.proofs.AcceptedTrees as trees
 use Rattle.tree_entries.proofs.openings.verify.Statement.{statement}
 use Rattle.tree_entries.proofs.openings.verify.Tie as tie
 
-row-of-verify-requires : tie.Need-row-of-verify-requires
-row-of-verify-requires c κs = search needs
+refusal-of-verify-requires : tie.Need-refusal-of-verify-requires
+refusal-of-verify-requires c κs = search needs
 
 returns : tie.Need-returns
 unfolding verdictReply verifyReply
 returns c =
-    let e = c .before .row-of-verify .ensures in
-    ap refused e ∙ sym (reply-refused (verifyRows p _ _ _ _ _) _ (λ z. c .if1 .taken (e ∙ z)))
+    let e = c .before .refusal-of-verify .ensures in
+    ap refused e ∙ sym (reply-refused (verifyRefusals p _ _ _ _ _) _ (λ z. c .if1 .taken (e ∙ z)))
 
 passed : (c : tie.Else1) → trees.Verified (c .before .before .before .before .before .args .set) (c .before .before .before .before .before .args .root .now) (c .before .before .before .before .before .args .place) (c .before .before .before .before .before .args .leaf .now) (c .before .before .before .before .before .args .siblings .now)
-passed c = trees.verify-passed _ _ _ _ _ (sym (c .before .row-of-verify .ensures) ∙ c .if1 .left)
+passed c = trees.verify-passed _ _ _ _ _ (sym (c .before .refusal-of-verify .ensures) ∙ c .if1 .left)
 
 dimensions-requires : tie.Need-dimensions-requires
 dimensions-requires c κs = passed c .set
@@ -37,7 +37,7 @@ unfolding verdictReply verifyReply
 returns-2 c =
     let d = c .before .before .before .before .before .before in
     let a = rw (d .dimensions .ensures) at (c .before .accepts .ensures) in
-    sym (reply-done (verifyRows p _ _ _ _ _) _ (trees.verify-numbered _ _ _ _ _) (sym (d .before .before .row-of-verify .ensures) ∙ d .before .if1 .left)
+    sym (reply-done (verifyRefusals p _ _ _ _ _) _ (trees.verify-numbered _ _ _ _ _) (sym (d .before .before .refusal-of-verify .ensures) ∙ d .before .if1 .left)
     ∙ ap (λ (b : Bool). done (cond b 1 0 ∷ [])) (sym a ∙ c .if2 .taken))
 
 returns-3 : tie.Need-returns-3
@@ -45,14 +45,14 @@ unfolding verdictReply verifyReply
 returns-3 c =
     let d = c .before .before .before .before .before .before in
     let a = rw (d .dimensions .ensures) at (c .before .accepts .ensures) in
-    sym (reply-done (verifyRows p _ _ _ _ _) _ (trees.verify-numbered _ _ _ _ _) (sym (d .before .before .row-of-verify .ensures) ∙ d .before .if1 .left)
+    sym (reply-done (verifyRefusals p _ _ _ _ _) _ (trees.verify-numbered _ _ _ _ _) (sym (d .before .before .refusal-of-verify .ensures) ∙ d .before .if1 .left)
     ∙ ap (λ (b : Bool). done (cond b 1 0 ∷ [])) (sym a ∙ c .if2 .left))
 
 pub verify-spec : {M : Type 1} → statement M
 verify-spec =
     tie.close
     (tie.spec
-    row-of-verify-requires
+    refusal-of-verify-requires
     returns
     dimensions-requires
     accepts-requires

@@ -1,0 +1,130 @@
+// The permutation, its inverse and the compression, for C.
+ghost use mathlib.Core.Path.{_≡_};
+ghost use Rattle.modular.specs.Goldilocks.{p};
+ghost use Rattle.refusals.specs.Table.{firstRefusal};
+ghost use Rattle.parameters.specs.ParameterSet.{holding};
+ghost use Rattle.parameters.specs.Refusals.{validationRefusals};
+ghost use Rattle.state_entries.specs.Permutation.{stateReply, permuted, unpermuted, compressReply, compressed};
+ghost use Rattle.replies.specs.Replies.{numberOf};
+ghost use Rattle.opening_tree_c.specs.Exports.{through, leaving};
+
+// The first of rows 1 to 9 that turns a set down, or 0.
+#[no_mangle]
+pub extern "C" fn opening_tree_validate(
+    width: u64,
+    node_size: u64,
+    height: u64,
+    full_rounds: u64,
+    partial_rounds: u64,
+    diagonal: &[u64],
+    constants: &[u64],
+) -> u8
+    ensures { λ r. ⌜ r ≡ firstRefusal (validationRefusals p width «node_size» height «full_rounds» «partial_rounds» (now (diagonal .entry)) (now (constants .entry))) ⌝ }
+{
+    parameters::refusal_of(
+        width,
+        node_size,
+        height,
+        full_rounds,
+        partial_rounds,
+        diagonal,
+        constants,
+    )
+}
+
+// The permutation of a state of t numbers, in place.
+#[no_mangle]
+pub extern "C" fn opening_tree_permute(
+    width: u64,
+    node_size: u64,
+    height: u64,
+    full_rounds: u64,
+    partial_rounds: u64,
+    diagonal: &[u64],
+    constants: &[u64],
+    state: &mut [u64],
+) -> u8
+    ensures { λ r. ⌜ (r ≡ numberOf (through (holding width «node_size» height «full_rounds» «partial_rounds» (now (diagonal .entry)) (now (constants .entry))) (λ s. stateReply p s (now (state .entry)))))
+        × (now (state .exit) ≡ leaving (holding width «node_size» height «full_rounds» «partial_rounds» (now (diagonal .entry)) (now (constants .entry))) (λ s. permuted p s (now (state .entry))) (now (state .entry))) ⌝ }
+{
+    let v = parameters::hold(
+        width,
+        node_size,
+        height,
+        full_rounds,
+        partial_rounds,
+        diagonal,
+        constants,
+    );
+    let number = v.number;
+    if number != 0 {
+        return number;
+    }
+    let set = v.parameters;
+    replies::of_outcome(opening_tree::permute(set, state))
+}
+
+// The state whose permutation is given, in place.
+#[no_mangle]
+pub extern "C" fn opening_tree_unpermute(
+    width: u64,
+    node_size: u64,
+    height: u64,
+    full_rounds: u64,
+    partial_rounds: u64,
+    diagonal: &[u64],
+    constants: &[u64],
+    state: &mut [u64],
+) -> u8
+    ensures { λ r. ⌜ (r ≡ numberOf (through (holding width «node_size» height «full_rounds» «partial_rounds» (now (diagonal .entry)) (now (constants .entry))) (λ s. stateReply p s (now (state .entry)))))
+        × (now (state .exit) ≡ leaving (holding width «node_size» height «full_rounds» «partial_rounds» (now (diagonal .entry)) (now (constants .entry))) (λ s. unpermuted p s (now (state .entry))) (now (state .entry))) ⌝ }
+{
+    let v = parameters::hold(
+        width,
+        node_size,
+        height,
+        full_rounds,
+        partial_rounds,
+        diagonal,
+        constants,
+    );
+    let number = v.number;
+    if number != 0 {
+        return number;
+    }
+    let set = v.parameters;
+    replies::of_outcome(opening_tree::unpermute(set, state))
+}
+
+// The compression of a state of t numbers to a node of l.
+#[no_mangle]
+pub extern "C" fn opening_tree_compress(
+    width: u64,
+    node_size: u64,
+    height: u64,
+    full_rounds: u64,
+    partial_rounds: u64,
+    diagonal: &[u64],
+    constants: &[u64],
+    state: &[u64],
+    node: &mut [u64],
+) -> u8
+    ensures { λ r. ⌜ (r ≡ numberOf (through (holding width «node_size» height «full_rounds» «partial_rounds» (now (diagonal .entry)) (now (constants .entry))) (λ s. compressReply p s (now (state .entry)) (now (node .entry)))))
+        × (now (node .exit) ≡ leaving (holding width «node_size» height «full_rounds» «partial_rounds» (now (diagonal .entry)) (now (constants .entry))) (λ s. compressed p s (now (state .entry)) (now (node .entry))) (now (node .entry))) ⌝ }
+{
+    let v = parameters::hold(
+        width,
+        node_size,
+        height,
+        full_rounds,
+        partial_rounds,
+        diagonal,
+        constants,
+    );
+    let number = v.number;
+    if number != 0 {
+        return number;
+    }
+    let set = v.parameters;
+    replies::of_outcome(opening_tree::compress(set, state, node))
+}

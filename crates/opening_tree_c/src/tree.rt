@@ -1,0 +1,174 @@
+// Trees for C: building, roots, openings and their verification.
+ghost use mathlib.Core.Path.{_≡_};
+ghost use Rattle.modular.specs.Goldilocks.{p};
+ghost use Rattle.parameters.specs.ParameterSet.{holding};
+ghost use Rattle.tree_entries.specs.Trees.{buildReply, built, rootReply, rooted, storelessReply, storelessRooted, openReply, opened, verifyReply};
+ghost use Rattle.replies.specs.Replies.{numberOf, verdictNumber};
+ghost use Rattle.opening_tree_c.specs.Exports.{through, leaving};
+
+// The whole store of a list of leaves.
+#[no_mangle]
+pub extern "C" fn opening_tree_build(
+    width: u64,
+    node_size: u64,
+    height: u64,
+    full_rounds: u64,
+    partial_rounds: u64,
+    diagonal: &[u64],
+    constants: &[u64],
+    leaves: &[u64],
+    store: &mut [u64],
+) -> u8
+    ensures { λ r. ⌜ (r ≡ numberOf (through (holding width «node_size» height «full_rounds» «partial_rounds» (now (diagonal .entry)) (now (constants .entry))) (λ s. buildReply p s (now (leaves .entry)) (now (store .entry)))))
+        × (now (store .exit) ≡ leaving (holding width «node_size» height «full_rounds» «partial_rounds» (now (diagonal .entry)) (now (constants .entry))) (λ s. built p s (now (leaves .entry)) (now (store .entry))) (now (store .entry))) ⌝ }
+{
+    let v = parameters::hold(
+        width,
+        node_size,
+        height,
+        full_rounds,
+        partial_rounds,
+        diagonal,
+        constants,
+    );
+    let number = v.number;
+    if number != 0 {
+        return number;
+    }
+    let set = v.parameters;
+    replies::of_outcome(opening_tree::build(set, leaves, store))
+}
+
+// The root of a store.
+#[no_mangle]
+pub extern "C" fn opening_tree_root(
+    width: u64,
+    node_size: u64,
+    height: u64,
+    full_rounds: u64,
+    partial_rounds: u64,
+    diagonal: &[u64],
+    constants: &[u64],
+    store: &[u64],
+    node: &mut [u64],
+) -> u8
+    ensures { λ r. ⌜ (r ≡ numberOf (through (holding width «node_size» height «full_rounds» «partial_rounds» (now (diagonal .entry)) (now (constants .entry))) (λ s. rootReply p s (now (store .entry)) (now (node .entry)))))
+        × (now (node .exit) ≡ leaving (holding width «node_size» height «full_rounds» «partial_rounds» (now (diagonal .entry)) (now (constants .entry))) (λ s. rooted p s (now (store .entry)) (now (node .entry))) (now (node .entry))) ⌝ }
+{
+    let v = parameters::hold(
+        width,
+        node_size,
+        height,
+        full_rounds,
+        partial_rounds,
+        diagonal,
+        constants,
+    );
+    let number = v.number;
+    if number != 0 {
+        return number;
+    }
+    let set = v.parameters;
+    replies::of_outcome(opening_tree::root(set, store, node))
+}
+
+// The root of a list of leaves, without a store.
+#[no_mangle]
+pub extern "C" fn opening_tree_storeless_root(
+    width: u64,
+    node_size: u64,
+    height: u64,
+    full_rounds: u64,
+    partial_rounds: u64,
+    diagonal: &[u64],
+    constants: &[u64],
+    leaves: &[u64],
+    node: &mut [u64],
+) -> u8
+    ensures { λ r. ⌜ (r ≡ numberOf (through (holding width «node_size» height «full_rounds» «partial_rounds» (now (diagonal .entry)) (now (constants .entry))) (λ s. storelessReply p s (now (leaves .entry)) (now (node .entry)))))
+        × (now (node .exit) ≡ leaving (holding width «node_size» height «full_rounds» «partial_rounds» (now (diagonal .entry)) (now (constants .entry))) (λ s. storelessRooted p s (now (leaves .entry)) (now (node .entry))) (now (node .entry))) ⌝ }
+{
+    let v = parameters::hold(
+        width,
+        node_size,
+        height,
+        full_rounds,
+        partial_rounds,
+        diagonal,
+        constants,
+    );
+    let number = v.number;
+    if number != 0 {
+        return number;
+    }
+    let set = v.parameters;
+    replies::of_outcome(opening_tree::storeless_root(set, leaves, node))
+}
+
+// The opening of a place.
+#[no_mangle]
+pub extern "C" fn opening_tree_open(
+    width: u64,
+    node_size: u64,
+    height: u64,
+    full_rounds: u64,
+    partial_rounds: u64,
+    diagonal: &[u64],
+    constants: &[u64],
+    store: &[u64],
+    place: u64,
+    siblings: &mut [u64],
+) -> u8
+    ensures { λ r. ⌜ (r ≡ numberOf (through (holding width «node_size» height «full_rounds» «partial_rounds» (now (diagonal .entry)) (now (constants .entry))) (λ s. openReply p s (now (store .entry)) place (now (siblings .entry)))))
+        × (now (siblings .exit) ≡ leaving (holding width «node_size» height «full_rounds» «partial_rounds» (now (diagonal .entry)) (now (constants .entry))) (λ s. opened p s (now (store .entry)) place (now (siblings .entry))) (now (siblings .entry))) ⌝ }
+{
+    let v = parameters::hold(
+        width,
+        node_size,
+        height,
+        full_rounds,
+        partial_rounds,
+        diagonal,
+        constants,
+    );
+    let number = v.number;
+    if number != 0 {
+        return number;
+    }
+    let set = v.parameters;
+    replies::of_outcome(opening_tree::open(set, store, place, siblings))
+}
+
+// Whether a leaf with its siblings at a place ends in a root: 0 is accepted, 255 rejected.
+#[no_mangle]
+pub extern "C" fn opening_tree_verify(
+    width: u64,
+    node_size: u64,
+    height: u64,
+    full_rounds: u64,
+    partial_rounds: u64,
+    diagonal: &[u64],
+    constants: &[u64],
+    root: &[u64],
+    place: u64,
+    leaf: &[u64],
+    siblings: &[u64],
+) -> u8
+    ensures { λ r. ⌜ r ≡ verdictNumber (through (holding width «node_size» height «full_rounds» «partial_rounds» (now (diagonal .entry)) (now (constants .entry))) (λ s. verifyReply p s (now (root .entry)) place (now (leaf .entry)) (now (siblings .entry)))) ⌝ }
+{
+    let v = parameters::hold(
+        width,
+        node_size,
+        height,
+        full_rounds,
+        partial_rounds,
+        diagonal,
+        constants,
+    );
+    let number = v.number;
+    if number != 0 {
+        return number;
+    }
+    let set = v.parameters;
+    replies::of_verdict(opening_tree::verify(set, root, place, leaf, siblings))
+}

@@ -1,0 +1,72 @@
+use mathlib.Core.Path.{_≡_, sym, ap, _∙_}
+use mathlib.Core.List.{List}
+use Prim.Native.Nat.{ℕ}
+use native.Mathlib.Omega.{arith}
+use borrow.Author.Needs.{needs}
+use Rattle.modular.specs.Goldilocks.{p}
+use Rattle.refusals.specs.Table.{firstRefusal}
+use Rattle.refusals.proofs.Table.{first-front, first-back}
+use Rattle.parameters.specs.Refusals.{constantCount, listRefusals}
+use Rattle.parameters.specs.ParameterSet.{heldRefusals}
+use Rattle.parameters.proofs.Accepted.{numbers-of, numbers-numbered, width-fits, count-fits}
+use Rattle.parameters.proofs.refusal_of_set.Statement.{statement}
+use Rattle.parameters.proofs.refusal_of_set.Tie as tie
+
+same-lists : {D E C F : List ℕ} → D ≡ E → C ≡ F → firstRefusal (listRefusals p D C) ≡ firstRefusal (listRefusals p E F)
+same-lists e f = cc
+
+refusal-of-numbers-requires : tie.Need-refusal-of-numbers-requires
+refusal-of-numbers-requires c κs = search needs
+
+returns : tie.Need-returns
+unfolding heldRefusals
+returns c =
+    let e = c .before .refusal-of-numbers .ensures in
+    e ∙ sym (first-front _ _ (λ z. c .if1 .taken (e ∙ z)))
+
+mul-count : tie.Need-mul-count
+unfolding constantCount
+mul-count c = omega (arith, count-fits _ _ _ _ _ (numbers-of _ _ _ _ _ (sym (c .before .refusal-of-numbers .ensures) ∙ c .if1 .left)))
+
+add-count : tie.Need-add-count
+unfolding constantCount
+add-count c = omega (arith, count-fits _ _ _ _ _ (numbers-of _ _ _ _ _ (sym (c .before .refusal-of-numbers .ensures) ∙ c .if1 .left)))
+
+first-requires : tie.Need-first-requires
+first-requires c κs =
+    let n = c .before in
+    let N = numbers-of _ _ _ _ _ (sym (n .before .refusal-of-numbers .ensures) ∙ n .if1 .left) in
+    omega (arith, width-fits _ (N .width))
+
+first-requires-2 : tie.Need-first-requires-2
+unfolding constantCount
+first-requires-2 c κs =
+    let n = c .before .before .before in
+    let N = numbers-of _ _ _ _ _ (sym (n .before .refusal-of-numbers .ensures) ∙ n .if1 .left) in
+    omega (arith, count-fits _ _ _ _ _ N)
+
+refusal-of-lists-requires : tie.Need-refusal-of-lists-requires
+refusal-of-lists-requires c κs = search needs
+
+returns-2 : tie.Need-returns-2
+unfolding heldRefusals constantCount
+returns-2 c =
+    let g = c .before in
+    let f = g .before .before in
+    let n = f .before .before in
+    c .refusal-of-lists .ensures
+    ∙ same-lists (f .first .ensures) (g .first2 .ensures)
+    ∙ sym (first-back _ _ (numbers-numbered _ _ _ _ _) (sym (n .before .refusal-of-numbers .ensures) ∙ n .if1 .left))
+
+pub refusal-of-set-spec : {M : Type 1} → statement M
+refusal-of-set-spec =
+    tie.close
+    (tie.spec
+    refusal-of-numbers-requires
+    returns
+    mul-count
+    add-count
+    first-requires
+    first-requires-2
+    refusal-of-lists-requires
+    returns-2)

@@ -1,0 +1,41 @@
+use mathlib.Core.Path.{_≡_, sym, _∙_}
+use mathlib.Core.List.{[]}
+use borrow.Author.Needs.{needs}
+use Rattle.refusals.specs.Table.{firstRefusal}
+use Rattle.refusals.proofs.Table.{refusal-applies, refusal-passes, first-front, first-back}
+use Rattle.parameters.specs.Refusals.{shapeRefusals}
+use Rattle.parameters.proofs.Accepted.{numbers-of, numbers-numbered, width-fits}
+use Rattle.parameters.proofs.refusal_of_shape.Statement.{statement}
+use Rattle.parameters.proofs.refusal_of_shape.Tie as tie
+
+refusal-of-numbers-requires : tie.Need-refusal-of-numbers-requires
+refusal-of-numbers-requires c κs = search needs
+
+returns : tie.Need-returns
+unfolding shapeRefusals
+returns c =
+    let e = c .before .refusal-of-numbers .ensures in
+    e ∙ sym (first-front _ _ (λ z. c .if1 .taken (e ∙ z)))
+
+bad-lengths-requires : tie.Need-bad-lengths-requires
+bad-lengths-requires c κs =
+    let N = numbers-of _ _ _ _ _ (sym (c .before .refusal-of-numbers .ensures) ∙ c .if1 .left) in
+    (width-fits _ (N .width), N .rounds .few, N .rounds .fewPartial)
+
+returns-2 : tie.Need-returns-2
+unfolding shapeRefusals
+returns-2 c =
+    let n = c .before .before in
+    sym (first-back _ _ (numbers-numbered _ _ _ _ _) (sym (n .before .refusal-of-numbers .ensures) ∙ n .if1 .left)
+    ∙ refusal-applies 6 _ _ (sym (c .before .bad-lengths .ensures) ∙ c .if2 .taken))
+
+returns-3 : tie.Need-returns-3
+unfolding shapeRefusals firstRefusal
+returns-3 c =
+    let n = c .before .before in
+    sym (first-back _ _ (numbers-numbered _ _ _ _ _) (sym (n .before .refusal-of-numbers .ensures) ∙ n .if1 .left)
+    ∙ refusal-passes 6 _ [] (sym (c .before .bad-lengths .ensures) ∙ c .if2 .left))
+
+pub refusal-of-shape-spec : {M : Type 1} → statement M
+refusal-of-shape-spec =
+    tie.close (tie.spec refusal-of-numbers-requires returns bad-lengths-requires returns-2 returns-3)

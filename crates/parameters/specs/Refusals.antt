@@ -1,0 +1,71 @@
+-- Document 01, "Turned back", refusals 1 to 9: each condition, and the refusals of a set in their order.
+use mathlib.Core.Bool.{Bool, true, false, not, _&&_, _||_}
+use mathlib.Core.List.{List, [], _∷_, _++_}
+use Prim.Native.Nat.{ℕ, _+_, _*_, _/_, _%_, _^_}
+use lib.Dec.{eqb, ltb}
+use lib.ListN.{length}
+use Rattle.modular.specs.Arithmetic.{allWords}
+use Rattle.refusals.specs.Table.{Refusal, refusal}
+use Rattle.poseidon2.specs.Layers.{sum}
+use Rattle.poseidon2.specs.Inverse.{inverses}
+
+-- "t not 4, 8, 12"
+unfoldable pub badWidth : ℕ → Bool
+badWidth t = not (eqb t 4 || eqb t 8 || eqb t 12)
+
+-- "l is 0, doesn't divide t, or k below 2", where k is t / l
+unfoldable pub badNodeSize : ℕ → ℕ → Bool
+badNodeSize t l = eqb l 0 || not (eqb (t % l) 0) || ltb (t / l) 2
+
+-- "R_F odd, 0 or above 12"
+unfoldable pub badFullRounds : ℕ → Bool
+badFullRounds rf = eqb (rf % 2) 1 || eqb rf 0 || ltb 12 rf
+
+-- "R_P above 64"
+unfoldable pub badPartialRounds : ℕ → Bool
+badPartialRounds rp = ltb 64 rp
+
+-- "h above 32 or k^h above 2^32"
+unfoldable pub badHeight : ℕ → ℕ → Bool
+badHeight k h = ltb 32 h || ltb (2 ^ 32) (k ^ h)
+
+-- "C is t×R_F + R_P words"
+unfoldable pub constantCount : ℕ → ℕ → ℕ → ℕ
+constantCount t rf rp = t * rf + rp
+
+-- "D or C of wrong length"
+unfoldable pub badLengths : ℕ → ℕ → ℕ → List ℕ → List ℕ → Bool
+badLengths t rf rp D C = not (eqb (length D) t && eqb (length C) (constantCount t rf rp))
+
+-- "a word of D is 0"
+unfoldable pub hasZero : List ℕ → Bool
+hasZero [] = false
+hasZero (d ∷ ds) = eqb d 0 || hasZero ds
+
+-- "1 plus the inverses of all D is 0"
+unfoldable pub badDiagonal : ℕ → List ℕ → Bool
+badDiagonal p D = eqb ((1 + sum (inverses p D)) % p) 0
+
+-- The refusals of the five numbers.
+unfoldable pub numberRefusals : ℕ → ℕ → ℕ → ℕ → ℕ → List Refusal
+numberRefusals t l h rf rp =
+    refusal 1 (badWidth t) ∷
+    refusal 2 (badNodeSize t l) ∷
+    refusal 3 (badFullRounds rf) ∷
+    refusal 4 (badPartialRounds rp) ∷
+    refusal 5 (badHeight (t / l) h) ∷ []
+
+-- "a number in D or C not below p", and the refusals of D. The lists are those of the used words.
+unfoldable pub listRefusals : ℕ → List ℕ → List ℕ → List Refusal
+listRefusals p D C =
+    refusal 7 (not (allWords p D && allWords p C)) ∷
+    refusal 8 (hasZero D) ∷
+    refusal 9 (badDiagonal p D) ∷ []
+
+-- The refusals of the five numbers and of the lists' lengths: those that a set has to pass to be held at all.
+unfoldable pub shapeRefusals : ℕ → ℕ → ℕ → ℕ → ℕ → List ℕ → List ℕ → List Refusal
+shapeRefusals t l h rf rp D C = numberRefusals t l h rf rp ++ (refusal 6 (badLengths t rf rp D C) ∷ [])
+
+-- The refusals by which validation goes: of the five numbers, of the lists' lengths, of the lists.
+unfoldable pub validationRefusals : ℕ → ℕ → ℕ → ℕ → ℕ → ℕ → List ℕ → List ℕ → List Refusal
+validationRefusals p t l h rf rp D C = numberRefusals t l h rf rp ++ (refusal 6 (badLengths t rf rp D C) ∷ listRefusals p D C)

@@ -1,0 +1,14 @@
+use borrow.Author.Needs.{needs}
+use Rattle.parameters.specs.ParameterSet.{setRefusals}
+use Rattle.state_entries.proofs.sets.refusal_of.Statement.{statement}
+use Rattle.state_entries.proofs.sets.refusal_of.Tie as tie
+
+refusal-of-set-requires : tie.Need-refusal-of-set-requires
+refusal-of-set-requires c κs = search needs
+
+returns : tie.Need-returns
+unfolding setRefusals
+returns c = c .refusal-of-set .ensures
+
+pub refusal-of-spec : {M : Type 1} → statement M
+refusal-of-spec = tie.close (tie.spec refusal-of-set-requires returns)
