@@ -1,4 +1,4 @@
 -- The laws that the proofs cite.
-mod Texts
+pub mod Texts
 mod ProgramInput
 mod ProgramReply

@@ -1,15 +1,17 @@
 -- Texts: the digits of a number one at a time, how long they are, and text that follows text.
 use mathlib.Core.Path.{_≡_, refl, sym, ap, _∙_}
-use mathlib.Core.List.{List, [], _∷_, _++_, append-assoc, append-nil}
+use mathlib.Core.List.{List, [], _∷_, _++_, append-assoc}
 use Prim.Native.Nat.{ℕ, zero, suc, _+_, _/_, _%_, _^_, _≤_, _<_}
-use native.Mathlib.Nat.{pow-succ'}
+use native.Mathlib.Nat.{pow-succ', zero-add, add-assoc}
 use native.Mathlib.Numerals.{add-one}
 use native.Mathlib.Decide.{decLt}
 use native.Mathlib.Omega.{arith}
-use lib.ListN.{length, take, set, getD, length-append}
-use lib.Seq.{take-suc-set, take-suc, take-length}
+use lib.ListN.{length, take, drop, set, getD, length-append}
+use lib.Seq.{take-suc, set-split, drop-drop, take-append-seam, drop-append-add, length-take-le}
 use borrow.Author.Tests.{lt-ltb, le-ltb}
-use Rattle.program.specs.Program.{digits, decimal, newline, lines, Appended}
+use Rattle.merkle.specs.Lists.{put}
+use Rattle.merkle.proofs.Lists.{length-put}
+use Rattle.program.specs.Program.{digits, decimal, newline, lines, written}
 
 -- As many digits as a number needs are enough.
 digits-enough : (k m n : ℕ) → n < k → n < m → digits k n ≡ digits m n
@@ -49,56 +51,65 @@ decimal-word n h = decimal-length 19 n (omega arith)
 pub decimal-byte : (n : ℕ) → n < 256 → length (decimal n) ≤ 3
 decimal-byte n h = decimal-length 2 n (omega arith)
 
--- One word more.
-pub lines-more : (ws : List ℕ) (i : ℕ) → i < length ws → lines (take (suc i) ws) ≡ lines (take i ws) ++ (decimal (getD ws i 0) ++ (newline ∷ []))
+-- A number and a newline; one such line more.
+abbrev pub line : ℕ → List ℕ
+line n = decimal n ++ (newline ∷ [])
+
+pub line-length : (n : ℕ) → length (line n) ≡ length (decimal n) + 1
+line-length n = length-append (decimal n) (newline ∷ [])
+
+pub lines-more : (ws : List ℕ) (i : ℕ) → i < length ws → lines (take (i + 1) ws) ≡ lines (take i ws) ++ line (getD ws i 0)
 unfolding lines
-lines-more ws i h = rw (take-suc ws i 0) (lines-snoc (take i ws) (getD ws i 0))
+lines-more ws i h = rw (add-one, take-suc ws i 0) (lines-snoc (take i ws) (getD ws i 0))
   where
-    lines-snoc : (xs : List ℕ) (w : ℕ) → lines (xs ++ (w ∷ [])) ≡ lines xs ++ (decimal w ++ (newline ∷ []))
+    lines-snoc : (xs : List ℕ) (w : ℕ) → lines (xs ++ (w ∷ [])) ≡ lines xs ++ line w
     lines-snoc [] w = refl
-    lines-snoc (x ∷ xs) w = ap (λ (ys : List ℕ). decimal x ++ (newline ∷ ys)) (lines-snoc xs w) ∙ sym (append-assoc (decimal x) (newline ∷ lines xs) (decimal w ++ (newline ∷ [])))
+    lines-snoc (x ∷ xs) w = ap (λ (ys : List ℕ). decimal x ++ (newline ∷ ys)) (lines-snoc xs w) ∙ sym (append-assoc (decimal x) (newline ∷ lines xs) (line w))
 
--- A byte that is stored.
-pub appended-byte : (before : List ℕ) (at b : ℕ) → at < length before → Appended before at (b ∷ []) (at + 1) (set before at b)
-appended-byte before at b h = record { place = refl; begins = rw (add-one, take-suc-set) }
+pub lines-longer : (ws : List ℕ) (i : ℕ) → i < length ws → length (lines (take (i + 1) ws)) ≡ length (lines (take i ws)) + length (line (getD ws i 0))
+lines-longer ws i h = ap length (lines-more ws i h) ∙ length-append (lines (take i ws)) (line (getD ws i 0))
 
--- Text after text.
-pub appended-both : {a b c : List ℕ} {at mid end : ℕ} {s t : List ℕ} → Appended a at s mid b → Appended b mid t end c → Appended a at (s ++ t) end c
-appended-both {a} {b} {c} {at} {mid} {end} {s} {t} S T = record {
-  place = omega (arith, S .place, T .place, length-append s t);
-  begins = T .begins ∙ ap (λ (xs : List ℕ). xs ++ t) (S .begins) ∙ append-assoc (take at a) s t;
-}
+-- ---- text that is put into the output
 
--- A list copied one element at a time: none, one more, all.
-pub copied-none : (out bs : List ℕ) (at : ℕ) → take (at + 0) out ≡ take at out ++ take 0 bs
-copied-none out bs at =
-    let z : at + 0 ≡ at = omega arith in
-    ap (λ (k : ℕ). take k out) z ∙ sym (append-nil (take at out))
+-- a byte that is stored
+pub put-byte : (xs : List ℕ) (at b : ℕ) → at < length xs → set xs at b ≡ put xs at (b ∷ [])
+unfolding put
+put-byte xs at b h = rw (set-split xs at b h, add-one)
 
-pub copied : (out before bs : List ℕ) (at i : ℕ) → i < length bs → at + i < length out → take (at + i) out ≡ take at before ++ take i bs
-    → take (at + (i + 1)) (set out (at + i) (getD bs i 0)) ≡ take at before ++ take (i + 1) bs
-copied out before bs at i h l e =
-    let n : at + (i + 1) ≡ suc (at + i) = omega arith in
-    ap (λ (k : ℕ). take k (set out (at + i) (getD bs i 0))) n
-    ∙ take-suc-set out (at + i) (getD bs i 0) l
-    ∙ ap (λ (xs : List ℕ). xs ++ (getD bs i 0 ∷ [])) e
-    ∙ append-assoc (take at before) (take i bs) (getD bs i 0 ∷ [])
-    ∙ ap (λ (xs : List ℕ). take at before ++ xs) (sym (take-suc bs i 0 h) ∙ ap (λ (k : ℕ). take k bs) (sym (add-one i)))
+-- text behind text
+behind : (front text rest more : List ℕ) (n : ℕ) → n ≡ length (front ++ text) → put (front ++ (text ++ rest)) n more ≡ front ++ ((text ++ more) ++ drop (length more) rest)
+unfolding put
+behind front text rest more n e = rw (e, ← append-assoc front text rest, take-append-seam, drop-append-add) (simp append-assoc)
 
-pub copied-all : (out before bs : List ℕ) (at i : ℕ) → i ≡ length bs → take (at + i) out ≡ take at before ++ take i bs → Appended before at bs (at + i) out
-copied-all out before bs at i h e = record {
-  place = ap (λ (k : ℕ). at + k) h;
-  begins = e ∙ ap (λ (xs : List ℕ). take at before ++ xs) (ap (λ (k : ℕ). take k bs) h ∙ take-length bs);
-}
+put-both : (xs s t : List ℕ) (at : ℕ) → at ≤ length xs → put (put xs at s) (at + length s) t ≡ put xs at (s ++ t)
+unfolding put
+put-both xs s t at h =
+    behind (take at xs) s (drop (at + length s) xs) t (at + length s) (omega (arith, length-append (take at xs) s, length-take-le at xs h))
+    ∙ rw (drop-drop, length-append, add-assoc)
 
-pub appended-as : {a b : List ℕ} {at end : ℕ} {s t : List ℕ} → s ≡ t → Appended a at t end b → Appended a at s end b
-appended-as {a} {b} {at} {end} {s} {t} e A = rw e A
+-- a byte behind text
+pub put-more : (xs text : List ℕ) (at b : ℕ) {a c : List ℕ} {mid : ℕ} → at + length text < length xs
+    → mid ≡ at + length text → a ≡ put xs at text → c ≡ set a mid b → c ≡ put xs at (text ++ (b ∷ []))
+put-more xs text at b fits m e f =
+    f ∙ rw (e, m) (put-byte (put xs at text) (at + length text) b (omega (arith, length-put xs at text (omega arith))))
+    ∙ put-both xs text (b ∷ []) at (omega arith)
 
--- One line more.
-pub lined : (out after ws : List ℕ) (at end i : ℕ) → i < length ws → take at out ≡ lines (take i ws)
-    → Appended out at (decimal (getD ws i 0) ++ (newline ∷ [])) end after → take end after ≡ lines (take (i + 1) ws)
-lined out after ws at end i h e A =
-    A .begins
-    ∙ ap (λ (xs : List ℕ). xs ++ (decimal (getD ws i 0) ++ (newline ∷ []))) e
-    ∙ sym (lines-more ws i h)
-    ∙ ap (λ (k : ℕ). lines (take k ws)) (sym (add-one i))
+-- A text at the start, and more behind it.
+pub written-put : (old text : List ℕ) → put old 0 text ≡ written text old
+unfolding put written
+written-put old text = rw zero-add
+
+pub written-more : (old text more : List ℕ) {at : ℕ} {a b : List ℕ} → at ≡ length text → a ≡ written text old → b ≡ put a at more → b ≡ written (text ++ more) old
+unfolding written
+written-more old text more n e f =
+    let rest : drop (length more) (drop (length text) old) ≡ drop (length (text ++ more)) old = rw (drop-drop, length-append) in
+    f ∙ rw (e, n) (behind [] text (drop (length text) old) more (length text) refl) ∙ ap (λ (xs : List ℕ). (text ++ more) ++ xs) rest
+
+pub written-as : {text other : List ℕ} → text ≡ other → {r : ℕ} {out : List ℕ} (old : List ℕ) → (r ≡ length text) × (out ≡ written text old)
+    → (r ≡ length other) × (out ≡ written other old)
+written-as e old f = (f .0 ∙ ap length e, f .1 ∙ ap (λ (xs : List ℕ). written xs old) e)
+
+-- a text is no longer than the output that has it
+pub written-fits : (text old : List ℕ) {r : ℕ} {out : List ℕ} → r ≡ length text → out ≡ written text old → r ≤ length out
+unfolding written
+written-fits text old n e = omega (arith, n, ap length e, length-append text (drop (length text) old))

@@ -112,6 +112,10 @@ unfoldable pub replyText : Reply → List ℕ
 replyText (refused n) = refusedLine n
 replyText (done words) = lines words
 
+-- The text for the numbers that were read.
+abbrev pub readText : ℕ → List ℕ → List ℕ
+readText p ns = replyText (reply (readRefusals p ns) (readRoot p ns))
+
 -- The program's standard output for its standard input.
 unfoldable pub rootText : ℕ → List ℕ → List ℕ
 rootText p bytes = replyText (programReply p bytes)
@@ -120,7 +124,6 @@ rootText p bytes = replyText (programReply p bytes)
 abbrev pub EmptyInput : Type 0
 EmptyInput = (p : ℕ) → rootText p [] ≡ refusedWord ++ (49 ∷ 48 ∷ newline ∷ [])
 
--- Text that is written into the output from a place on: the place after it, and what the output then begins with.
-pub record Appended (before : List ℕ) (at : ℕ) (text : List ℕ) (end : ℕ) (after : List ℕ) : Type 0 where
-  pub place : end ≡ at + length text
-  pub begins : take end after ≡ take at before ++ text
+-- The output with a text at its start: beyond the text it is as it was.
+unfoldable pub written : List ℕ → List ℕ → List ℕ
+written text old = text ++ drop (length text) old

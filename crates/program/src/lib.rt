@@ -1,12 +1,11 @@
 // The root program (Rules 7.5, 7.6), from the bytes that it reads to those that it writes.
 ghost use mathlib.Core.Path.{_≡_};
-ghost use mathlib.Core.List.{_∷_, []};
 ghost use Prim.Native.Nat.{_+_, _/_, _≤_, _<_, min};
-ghost use lib.ListN.{length, take, drop, getD};
+ghost use lib.ListN.{length, take, drop, getD, set};
 ghost use Rattle.modular.specs.Goldilocks.{p};
-ghost use Rattle.refusals.specs.Table.{reply};
 ghost use Rattle.parameters.specs.Refusals.{constantCount};
-ghost use Rattle.program.specs.Program.{littleEndian, numbersOf, readWidth, readCount, readLeaves, readValidation, readRefusals, readRoot, decimal, lines, refusedLine, replyText, rootText, Appended};
+ghost use Rattle.merkle.specs.Lists.{put};
+ghost use Rattle.program.specs.Program.{littleEndian, numbersOf, readWidth, readCount, readLeaves, readValidation, decimal, lines, refusedLine, readText, rootText, written};
 use opening_tree::Outcome;
 use parameters::Validation;
 
@@ -98,7 +97,8 @@ fn constant_count(width: u64, full_rounds: u64, partial_rounds: u64, most: u64) 
 
 fn put_byte(byte: u8, at: usize, output: &mut [u8]) -> usize
     requires { ⌜ at < length (now output) ⌝ }
-    ensures { λ r. ⌜ Appended (now (output .entry)) at (byte ∷ []) r (now (output .exit)) ⌝ }
+    ensures { λ r. ⌜ r ≡ at + 1 ⌝ }
+    ensures { λ r. ⌜ now (output .exit) ≡ set (now (output .entry)) at byte ⌝ }
 {
     output[at] = byte;
     at + 1
@@ -106,7 +106,8 @@ fn put_byte(byte: u8, at: usize, output: &mut [u8]) -> usize
 
 fn put_bytes(bytes: &[u8], at: usize, output: &mut [u8]) -> usize
     requires { ⌜ at + length (now bytes) ≤ length (now output) ⌝ }
-    ensures { λ r. ⌜ Appended (now (output .entry)) at (now (bytes .entry)) r (now (output .exit)) ⌝ }
+    ensures { λ r. ⌜ r ≡ at + length (now (bytes .entry)) ⌝ }
+    ensures { λ r. ⌜ now (output .exit) ≡ put (now (output .entry)) at (now (bytes .entry)) ⌝ }
 {
     let mut i = 0;
     while i < bytes.len() {
@@ -119,7 +120,8 @@ fn put_bytes(bytes: &[u8], at: usize, output: &mut [u8]) -> usize
 // A number in decimal: the digits before the last, and the last.
 fn put_decimal(n: u64, at: usize, output: &mut [u8]) -> usize
     requires { ⌜ at + length (decimal n) ≤ length (now output) ⌝ }
-    ensures { λ r. ⌜ Appended (now (output .entry)) at (decimal n) r (now (output .exit)) ⌝ }
+    ensures { λ r. ⌜ r ≡ at + length (decimal n) ⌝ }
+    ensures { λ r. ⌜ now (output .exit) ≡ put (now (output .entry)) at (decimal n) ⌝ }
 {
     if n < 10 {
         return put_byte(48 + n as u8, at, output);
@@ -131,7 +133,8 @@ fn put_decimal(n: u64, at: usize, output: &mut [u8]) -> usize
 // The words in decimal, each on a line of its own.
 fn put_lines(words: &[u64], output: &mut [u8]) -> usize
     requires { ⌜ (length (now words) ≤ 6) × (length (now output) ≡ 128) ⌝ }
-    ensures { λ r. ⌜ (r ≤ length (now (output .exit))) × (take r (now (output .exit)) ≡ lines (now (words .entry))) ⌝ }
+    ensures { λ r. ⌜ r ≡ length (lines (now (words .entry))) ⌝ }
+    ensures { λ r. ⌜ now (output .exit) ≡ written (lines (now (words .entry))) (now (output .entry)) ⌝ }
 {
     let mut at = 0;
     let mut i = 0;
@@ -145,7 +148,8 @@ fn put_lines(words: &[u64], output: &mut [u8]) -> usize
 
 fn put_refused(number: u8, output: &mut [u8]) -> usize
     requires { ⌜ length (now output) ≡ 128 ⌝ }
-    ensures { λ r. ⌜ (r ≤ length (now (output .exit))) × (take r (now (output .exit)) ≡ refusedLine number) ⌝ }
+    ensures { λ r. ⌜ r ≡ length (refusedLine number) ⌝ }
+    ensures { λ r. ⌜ now (output .exit) ≡ written (refusedLine number) (now (output .entry)) ⌝ }
 {
     let at = put_bytes(b"refused ", 0, output);
     let end = put_decimal(number as u64, at, output);
@@ -201,7 +205,8 @@ fn set_read(numbers: &[u64]) -> Validation
 // The text for the numbers that were read.
 fn text_of(numbers: &[u64], output: &mut [u8]) -> usize
     requires { ⌜ length (now output) ≡ 128 ⌝ }
-    ensures { λ r. ⌜ (r ≤ length (now (output .exit))) × (take r (now (output .exit)) ≡ replyText (reply (readRefusals p (now (numbers .entry))) (readRoot p (now (numbers .entry))))) ⌝ }
+    ensures { λ r. ⌜ r ≡ length (readText p (now (numbers .entry))) ⌝ }
+    ensures { λ r. ⌜ now (output .exit) ≡ written (readText p (now (numbers .entry))) (now (output .entry)) ⌝ }
 {
     let validated = set_read(numbers);
     if validated.number != 0 {
@@ -219,7 +224,8 @@ fn text_of(numbers: &[u64], output: &mut [u8]) -> usize
 
 // The text of the root program for its input: how many bytes of the output it is.
 pub fn root_text(input: &[u8], output: &mut [u8; 128]) -> usize
-    ensures { λ r. ⌜ (r ≤ length (now (output .exit))) × (take r (now (output .exit)) ≡ rootText p (now (input .entry))) ⌝ }
+    ensures { λ r. ⌜ r ≡ length (rootText p (now (input .entry))) ⌝ }
+    ensures { λ r. ⌜ now (output .exit) ≡ written (rootText p (now (input .entry))) (now (output .entry)) ⌝ }
 {
     if input.len() < 40 {
         return put_refused(10, output);

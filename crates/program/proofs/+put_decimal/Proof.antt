@@ -1,8 +1,9 @@
 use mathlib.Core.Path.{ap, _∙_}
 use native.Mathlib.Omega.{arith}
 use lib.ListN.{length}
-use Rattle.program.proofs.Texts.{decimal-digit, decimal-more, decimal-longer, appended-as, appended-both}
-use Prim.Native.Nat.{ℕ, _<_}
+use Rattle.program.specs.Program.{decimal}
+use Rattle.program.proofs.Texts.{decimal-digit, decimal-more, decimal-longer, put-byte, put-more}
+use Prim.Native.Nat.{ℕ, _+_, _/_, _%_, _<_}
 use borrow.Fn.Kinds.{In}
 use borrow.Fn.PlainCycle.{Measures, is, falls, and}
 use Rattle.program.proofs.put_decimal.Reads as put-decimal
@@ -63,7 +64,10 @@ put-decimal-returns : (t : ℕ) → put-decimal-lts.Need-returns (
   put-decimal-below t,
   put-decimal.Post,
 ) (put-decimal-at t) put-decimal.Post
-put-decimal-returns t c = appended-as (decimal-digit _ (omega arith)) (c .before .before .put-byte .ensures)
+put-decimal-returns t c =
+    let s = c .before .before .before .before .before .before in
+    let b = c .before .before .put-byte .ensures in
+    rw (decimal-digit (s .args .n) (omega arith)) (b .0, b .1 ∙ put-byte _ (s .args .at) _ (omega (arith, s .pre .1, ap length (decimal-digit (s .args .n) (omega arith)))))
 
 put-decimal-put-decimal-requires : (t : ℕ) → put-decimal-lts.Need-put-decimal-requires (
   put-byte-reads.Asked,
@@ -100,7 +104,7 @@ put-decimal-put-byte-requires-2 : (t : ℕ) → put-decimal-lts.Need-put-byte-re
 put-decimal-put-byte-requires-2 t c κs =
     let s = c .before .before .before .before .before .before .before in
     let d = c .before .before .before .put-decimal in
-    omega (arith, s .pre .1, d .ensures .place, d .kept .1 .1 .0, decimal-longer (s .args .n) (omega arith))
+    omega (arith, s .pre .1, d .ensures .0, d .kept .1 .1 .0, decimal-longer (s .args .n) (omega arith))
 
 put-decimal-same-length-2 : (t : ℕ) → put-decimal-lts.Need-same-length-2 (
   put-byte-reads.Asked,
@@ -117,7 +121,14 @@ put-decimal-returns-2 : (t : ℕ) → put-decimal-lts.Need-returns-2 (
   put-decimal.Post,
 ) (put-decimal-at t) put-decimal.Post
 put-decimal-returns-2 t c =
-    appended-as (decimal-more _ (omega arith)) (appended-both (c .before .before .before .before .before .before .put-decimal .ensures) (c .before .before .put-byte2 .ensures))
+    let s = c .before .before .before .before .before .before .before .before .before .before in
+    let d = c .before .before .before .before .before .before .put-decimal in
+    let b = c .before .before .put-byte2 in
+    let n = s .args .n in
+    let more = decimal-longer n (omega arith) in (
+      omega (arith, b .ensures .0, d .ensures .0, more),
+      rw (decimal-more n (omega arith)) (put-more (s .args .output .now) (decimal (n / 10)) (s .args .at) (48 + n % 10) (omega (arith, s .pre .1, more)) (d .ensures .0) (d .ensures .1) (b .ensures .1)),
+    )
 
 pub +put-decimal-spec : {M : Type 1} → statement M
 +put-decimal-spec = close μ-put-decimal λ t. put-decimal-lts.spec (

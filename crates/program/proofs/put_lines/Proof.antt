@@ -1,22 +1,23 @@
-use mathlib.Core.Path.{_≡_, refl, ap, _∙_}
+use mathlib.Core.Path.{_≡_, refl, sym, ap, _∙_}
+use mathlib.Core.List.{List}
 use Prim.Native.Nat.{ℕ, _*_, _-_, _≤_}
 use native.Mathlib.Omega.{arith}
 use lib.ListN.{length, take, getD}
 use lib.Seq.{take-length}
-use Rattle.program.specs.Program.{lines}
-use Rattle.program.proofs.Texts.{decimal-word, appended-both, lined}
+use Rattle.program.specs.Program.{decimal, newline, lines, written}
+use Rattle.program.proofs.Texts.{decimal-word, line, line-length, lines-more, lines-longer, put-more, written-more}
 use Rattle.program.proofs.put_lines.Statement.{statement}
 use Rattle.program.proofs.put_lines.Tie as tie
 
 abbrev Inv-loop : tie.InvT-loop
-Inv-loop words output₀ at₀ i₀ output at i = (i ≤ length words) × (length output ≡ length output₀) × (at ≤ 21 * i) × (take at output ≡ lines (take i words))
+Inv-loop words output₀ at₀ i₀ output at i = (i ≤ length words) × (length output ≡ length output₀) × (at ≤ 21 * i) × (at ≡ length (lines (take i words))) × (output ≡ written (lines (take i words)) output₀)
 
 abbrev μ-loop : tie.MeasureT-loop
 μ-loop words output₀ at₀ i₀ output at i = length words - i
 
 loop-holds : tie.Need-loop-holds Inv-loop μ-loop
-unfolding lines
-loop-holds c = (omega arith, refl, omega arith, refl)
+unfolding lines written
+loop-holds c = (omega arith, refl, omega arith, refl, refl)
 
 mul-put-decimal : tie.Need-mul-put-decimal Inv-loop μ-loop
 mul-put-decimal c = omega arith
@@ -37,7 +38,7 @@ put-byte-requires c κs =
     let s = l .before .before .before in
     let d = c .before .before .before .put-decimal in
     let i = l .loop .i in
-    omega (arith, s .pre, d .ensures .place, d .kept .1 .1 .0, decimal-word (getD (s .args .words .now) i 0) (omega (arith, c .before .before .before .before .before .shared-slice-known2 .given i)))
+    omega (arith, s .pre, d .ensures .0, d .kept .1 .1 .0, decimal-word (getD (s .args .words .now) i 0) (omega (arith, c .before .before .before .before .before .shared-slice-known2 .given i)))
 
 add-i : tie.Need-add-i Inv-loop μ-loop
 add-i c = omega arith
@@ -52,11 +53,16 @@ loop-again c =
     let d = c .before .before .before .before .before .before .put-decimal in
     let n = c .before .before .put-byte in
     let i = l .loop .i in
-    let words = s .args .words .now in (
+    let words = s .args .words .now in
+    let w = getD words i 0 in
+    let short = decimal-word w (omega (arith, c .before .before .before .before .before .before .before .before .shared-slice-known2 .given i)) in (
       omega arith,
       n .kept .1 .1 .0 ∙ d .kept .1 .1 .0 ∙ l .loop .inv .1,
-      omega (arith, d .ensures .place, n .ensures .place, decimal-word (getD words i 0) (omega (arith, c .before .before .before .before .before .before .before .before .shared-slice-known2 .given i))),
-      lined _ _ words _ _ i (omega arith) (l .loop .inv .3) (appended-both (d .ensures) (n .ensures)),
+      omega (arith, d .ensures .0, n .ensures .0, short),
+      omega (arith, d .ensures .0, n .ensures .0, lines-longer words i (omega arith), line-length w),
+      written-more (s .args .output .now) (lines (take i words)) (line w) (l .loop .inv .3) (l .loop .inv .4)
+          (put-more (l .loop .output) (decimal w) (l .loop .at) newline (omega (arith, s .pre, short)) (d .ensures .0) (d .ensures .1) (n .ensures .1))
+          ∙ ap (λ (text : List ℕ). written text (s .args .output .now)) (sym (lines-more words i (omega arith))),
     )
 
 same-length : tie.Need-same-length Inv-loop μ-loop
@@ -67,7 +73,8 @@ returns c =
     let l = c .before in
     let words = l .before .before .before .args .words .now in
     let e : l .loop .i ≡ length words = omega arith in
-    (omega arith, l .loop .inv .3 ∙ ap (λ (k : ℕ). lines (take k words)) e ∙ ap lines (take-length words))
+    let all : lines (take (l .loop .i) words) ≡ lines words = ap (λ (k : ℕ). lines (take k words)) e ∙ ap lines (take-length words) in
+    (l .loop .inv .3 ∙ ap length all, l .loop .inv .4 ∙ ap (λ (text : List ℕ). written text (l .before .before .before .args .output .now)) all)
 
 pub put-lines-spec : {M : Type 1} → statement M
 put-lines-spec =

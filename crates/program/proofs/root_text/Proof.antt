@@ -1,8 +1,9 @@
-use mathlib.Core.Path.{sym, _∙_}
+use mathlib.Core.Path.{sym}
 use native.Mathlib.Omega.{arith}
 use lib.Seq.{length-take-le}
 use Rattle.modular.specs.Goldilocks.{p}
 use Rattle.program.proofs.ProgramReply.{count-short, count-long, count-odd, count-right, text-of-bad-count, text-of-numbers}
+use Rattle.program.proofs.Texts.{written-as}
 use borrow.Author.Needs.{needs}
 use Rattle.program.proofs.root_text.Statement.{statement}
 use Rattle.program.proofs.root_text.Tie as tie
@@ -13,7 +14,7 @@ put-refused-requires c κs = search needs
 returns : tie.Need-returns
 returns c =
     let f = c .put-refused .ensures in
-    (f .0, f .1 ∙ text-of-bad-count p _ (count-short _ (c .before .before .if1 .taken)))
+    written-as (text-of-bad-count p _ (count-short _ (c .before .before .if1 .taken))) _ f
 
 put-refused-requires-2 : tie.Need-put-refused-requires-2
 put-refused-requires-2 c κs = search needs
@@ -21,7 +22,7 @@ put-refused-requires-2 c κs = search needs
 returns-2 : tie.Need-returns-2
 returns-2 c =
     let f = c .put-refused2 .ensures in
-    (f .0, f .1 ∙ text-of-bad-count p _ (count-long _ (c .before .before .before .if1 .left) (c .before .before .if2 .taken)))
+    written-as (text-of-bad-count p _ (count-long _ (c .before .before .before .if1 .left) (c .before .before .if2 .taken))) _ f
 
 put-refused-requires-3 : tie.Need-put-refused-requires-3
 put-refused-requires-3 c κs = search needs
@@ -29,7 +30,7 @@ put-refused-requires-3 c κs = search needs
 returns-3 : tie.Need-returns-3
 returns-3 c =
     let f = c .put-refused3 .ensures in
-    (f .0, f .1 ∙ text-of-bad-count p _ (count-odd _ (c .before .before .before .before .if1 .left) (c .before .before .before .if2 .left) (c .before .before .if3 .taken)))
+    written-as (text-of-bad-count p _ (count-odd _ (c .before .before .before .before .if1 .left) (c .before .before .before .if2 .left) (c .before .before .if3 .taken))) _ f
 
 slice-aggregate-decode : tie.Need-slice-aggregate-decode
 slice-aggregate-decode c = search needs
@@ -52,7 +53,7 @@ returns-4 : tie.Need-returns-4
 returns-4 c =
     let f = c .text-of .ensures in
     let d = c .before .before .before .before .decode .ensures in
-    (f .0, f .1 ∙ text-of-numbers p _ _ _ (count-right _ (c .before .before .before .before .before .before .before .before .if1 .left) (c .before .before .before .before .before .before .before .if2 .left) (c .before .before .before .before .before .before .if3 .left)) (d .0) (d .1))
+    written-as (text-of-numbers p _ _ _ (count-right _ (c .before .before .before .before .before .before .before .before .if1 .left) (c .before .before .before .before .before .before .before .if2 .left) (c .before .before .before .before .before .before .if3 .left)) (d .0) (d .1)) _ f
 
 pub root-text-spec : {M : Type 1} → statement M
 root-text-spec =

@@ -4,6 +4,7 @@ use lib.Seq.{length-take-le}
 use Rattle.modular.specs.Goldilocks.{p}
 use Rattle.program.specs.Program.{replyText}
 use Rattle.program.proofs.ProgramReply.{turned-down, node-size-few, refused-text, done-text}
+use Rattle.program.proofs.Texts.{written-as}
 use borrow.Author.Needs.{needs}
 use Rattle.program.proofs.text_of.Statement.{statement}
 use Rattle.program.proofs.text_of.Tie as tie
@@ -22,7 +23,7 @@ unfolding replyText
 returns c =
     let f = c .before .before .put-refused .ensures in
     let t = turned-down p _ _ (c .before .before .before .before .before .before .set-read .ensures) (c .before .before .before .before .if1 .taken) in
-    (f .0, f .1 ∙ sym (ap replyText t))
+    written-as (sym (ap replyText t)) _ f
 
 array-borrow-prefix-places : tie.Need-array-borrow-prefix-places
 array-borrow-prefix-places c = node-size-few p _ _ (c .before .before .before .set-read .ensures) (c .before .if1 .left)
@@ -60,7 +61,7 @@ returns-2 c =
     let r = c .before .before .before .before .before .before .before .before .before .before .storeless-root .ensures in
     let v = c .before .before .before .before .before .before .before .before .before .before .before .before .before .before .before .before .before .set-read .ensures in
     let z = c .before .before .before .before .before .before .before .before .before .before .before .before .before .before .before .if1 .left in
-    (f .0, f .1 ∙ done-text p _ _ v z _ (length-take-le _ _ (node-size-few p _ _ v z)) _ _ _ (c .before .before .before .before .before .before .before .before .before .before .before .before .leaves-read .ensures) (c .before .before .before .before .before .before .enum-told .given .1) (r .0) (r .1))
+    written-as (done-text p _ _ v z _ (length-take-le _ _ (node-size-few p _ _ v z)) _ _ _ (c .before .before .before .before .before .before .before .before .before .before .before .before .leaves-read .ensures) (c .before .before .before .before .before .before .enum-told .given .1) (r .0) (r .1)) _ f
 
 same-length-3 : tie.Need-same-length-3
 same-length-3 c = search needs
@@ -71,7 +72,7 @@ returns-3 c =
     let r = c .before .before .before .before .before .before .before .before .before .before .storeless-root .ensures in
     let v = c .before .before .before .before .before .before .before .before .before .before .before .before .before .before .before .before .before .set-read .ensures in
     let z = c .before .before .before .before .before .before .before .before .before .before .before .before .before .before .before .if1 .left in
-    (f .0, f .1 ∙ refused-text p _ _ v z _ (length-take-le _ _ (node-size-few p _ _ v z)) _ _ _ (c .before .before .before .before .before .before .before .before .before .before .before .before .leaves-read .ensures) (c .before .before .before .before .before .before .number .given .1) (r .0))
+    written-as (refused-text p _ _ v z _ (length-take-le _ _ (node-size-few p _ _ v z)) _ _ _ (c .before .before .before .before .before .before .before .before .before .before .before .before .leaves-read .ensures) (c .before .before .before .before .before .before .number .given .1) (r .0)) _ f
 
 pub text-of-spec : {M : Type 1} → statement M
 text-of-spec =

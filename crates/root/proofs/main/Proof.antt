@@ -1,6 +1,7 @@
 use mathlib.Core.Path.{sym}
 use borrow.Author.Needs.{needs}
 use lib.Seq.{length-take-le}
+use Rattle.program.proofs.Texts.{written-fits}
 use Rattle.root.proofs.main.Statement.{statement}
 use Rattle.root.proofs.main.Tie as tie
 
@@ -20,10 +21,14 @@ root-text-requires : tie.Need-root-text-requires
 root-text-requires c κs = search needs
 
 array-share-prefix-output : tie.Need-array-share-prefix-output
-array-share-prefix-output c = c .root-text .ensures .0
+array-share-prefix-output c =
+    let f = c .root-text .ensures in
+    written-fits _ _ (f .0) (f .1)
 
 slice-aggregate-write-all : tie.Need-slice-aggregate-write-all
-slice-aggregate-write-all c = sym (length-take-le _ _ (c .before .root-text .ensures .0))
+slice-aggregate-write-all c =
+    let f = c .before .root-text .ensures in
+    sym (length-take-le _ _ (written-fits _ _ (f .0) (f .1)))
 
 write-all-requires : tie.Need-write-all-requires
 write-all-requires c κs = search needs
