@@ -76,7 +76,7 @@ module _ (p t l h rf rp : ℕ) (D C : List ℕ) where
   number-is = at (eqb (firstRefusal refusals) 0) refl
     where
       at : (b : Bool) → eqb (firstRefusal refusals) 0 ≡ b
-          → cond b (record { number = 0; parameters = held t l h rf rp D C }) (refusal (firstRefusal refusals)) .number ≡ firstRefusal refusals
+          → cond b (record { number = 0; parameters = held t l h rf rp D C }) (refusedValidation (firstRefusal refusals)) .number ≡ firstRefusal refusals
       at true e = sym (eqb-true (firstRefusal refusals) 0 e)
       at false e = refl
 
