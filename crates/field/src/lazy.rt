@@ -3,13 +3,10 @@ ghost use mathlib.Core.Path.{_≡_};
 ghost use Prim.Native.Nat.{_+_, _*_, _/_, _%_, _^_, _<_, _≤_};
 ghost use Rattle.modular.specs.Congruence.{_≈⟨_⟩_};
 ghost use Rattle.modular.specs.Goldilocks.{p};
+use crate::EPSILON;
+use crate::P;
 use std::num::wrapping_add_u64;
 use std::num::wrapping_sub_u64;
-
-const P: u64 = 18446744069414584321;
-
-// 2^64 modulo p
-const EPSILON: u64 = 4294967295;
 
 // 2^32: a number is a high and a low half below it
 const HALF: u64 = 4294967296;

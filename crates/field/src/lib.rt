@@ -11,7 +11,7 @@ use std::num::wrapping_sub_u64;
 pub const P: u64 = 18446744069414584321;
 
 // 2^64 modulo p
-const EPSILON: u64 = 4294967295;
+pub const EPSILON: u64 = 4294967295;
 
 // The seventh root of a word is this power of it.
 const ROOT_EXPONENT: u64 = 10540996611094048183;

@@ -8,7 +8,7 @@ use borrow.Author.Tests.{eq-eqb, ne-eqb}
 use Rattle.refusals.specs.Table.{Reply, refused}
 use Rattle.parameters.specs.declared.ParameterSet.{ParameterSet}
 use Rattle.parameters.specs.declared.Validation.{Validation}
-use Rattle.replies.specs.Replies.{numberOf, verdictNumber, valueAfter}
+use Rattle.replies.specs.Replies.{numberOf, verdictNumber, valueAt}
 use Rattle.opening_tree_c.specs.Exports.{through, leaving}
 
 module _ (w v : Validation) (e : w ≡ v) where
@@ -25,9 +25,9 @@ module _ (w v : Validation) (e : w ≡ v) where
     unfolding verdictNumber
     turned-verdict entry = sym (ap verdictNumber (turned entry))
 
-    pub turned-value : (entry : ParameterSet → Reply) (old : ℕ) → old ≡ valueAfter (through v entry) old
-    unfolding valueAfter
-    turned-value entry old = sym (ap (λ (r : Reply). valueAfter r old) (turned entry))
+    pub turned-value : (i : ℕ) (entry : ParameterSet → Reply) (old : ℕ) → old ≡ valueAt i (through v entry) old
+    unfolding valueAt
+    turned-value i entry old = sym (ap (λ (r : Reply). valueAt i r old) (turned entry))
 
     pub turned-buffer : (work : ParameterSet → List ℕ) (old : List ℕ) → old ≡ leaving v work old
     unfolding leaving
@@ -43,5 +43,5 @@ module _ (w v : Validation) (e : w ≡ v) where
     passed-buffer work old = sym (sym (ap (λ (u : Validation). leaving u work old) e) ∙ rw (eq-eqb (w .number) 0 z))
 
 -- the same reply leaves the same value
-pub same-value : {a b : Reply} → a ≡ b → (old : ℕ) → valueAfter a old ≡ valueAfter b old
-same-value e old = ap (λ (r : Reply). valueAfter r old) e
+pub same-value : (i : ℕ) {a b : Reply} → a ≡ b → (old : ℕ) → valueAt i a old ≡ valueAt i b old
+same-value i e old = ap (λ (r : Reply). valueAt i r old) e

@@ -9,7 +9,7 @@ ghost use Rattle.refusals.specs.Table.{firstRefusal};
 ghost use Rattle.parameters.specs.ParameterSet.{padded, held, refusedValidation, holding, validation, heldRefusals};
 ghost use Rattle.parameters.specs.Refusals.{badWidth, badNodeSize, badFullRounds, badPartialRounds, badHeight, badLengths, hasZero, badDiagonal, numberRefusals, shapeRefusals, listRefusals, validationRefusals};
 
-const P: u64 = 18446744069414584321;
+use field::P;
 
 pub struct ParameterSet {
     pub width: u64,

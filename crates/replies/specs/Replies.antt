@@ -1,6 +1,7 @@
 -- What an entry answers, for a caller that holds nothing but numbers: one that is returned, and one that is lent for a result.
 use mathlib.Core.List.{[], _∷_}
 use Prim.Native.Nat.{ℕ, zero, suc}
+use lib.ListN.{getD}
 use Rattle.refusals.specs.Table.{Reply, refused, done}
 
 -- The number returned: 0 where the work is done, or the row's.
@@ -15,8 +16,11 @@ verdictNumber (done []) = 255
 verdictNumber (done (zero ∷ values)) = 255
 verdictNumber (done (suc n ∷ values)) = 0
 
--- What the number lent for a result holds afterwards, of what it held.
-unfoldable pub valueAfter : Reply → ℕ → ℕ
-valueAfter (refused n) old = old
-valueAfter (done []) old = old
-valueAfter (done (value ∷ values)) old = value
+-- What the number handed in for value i of the result holds afterwards, of what it held.
+unfoldable pub valueAt : ℕ → Reply → ℕ → ℕ
+valueAt i (refused n) old = old
+valueAt i (done values) old = getD values i old
+
+-- where the result is one value
+abbrev pub valueAfter : Reply → ℕ → ℕ
+valueAfter = valueAt 0

@@ -2,14 +2,15 @@
 ghost use mathlib.Core.Path.{_≡_};
 ghost use Rattle.field_entries.specs.Arithmetic.{replyOf};
 ghost use Rattle.state_entries.specs.Permutation.{outcomeReply};
-ghost use Rattle.tree_entries.specs.Trees.{verdictReply};
+ghost use Rattle.tree_entries.specs.Trees.{verdictReply, sizingReply};
 ghost use Rattle.change_entries.specs.Replacement.{changedReply};
 ghost use Rattle.extraction_entries.specs.Extraction.{extractionReply};
-ghost use Rattle.replies.specs.Replies.{numberOf, valueAfter, verdictNumber};
+ghost use Rattle.replies.specs.Replies.{numberOf, valueAt, valueAfter, verdictNumber};
 use change_entries::Changed;
 use extraction_entries::Extraction;
 use field_entries::Answer;
 use state_entries::Outcome;
+use tree_entries::Sizing;
 use tree_entries::Verdict;
 
 const REJECTED: u8 = 255;
@@ -66,5 +67,20 @@ pub fn of_extraction(extraction: Extraction, level: &mut u64) -> u8
             0
         }
         Extraction::Refused(n) => n,
+    }
+}
+
+pub fn of_sizing(sizing: Sizing, leaves: &mut u64, store: &mut u64, opening: &mut u64) -> u8
+    ensures { λ r. ⌜ (r ≡ numberOf (sizingReply sizing)) × (now (leaves .exit) ≡ valueAt 0 (sizingReply sizing) (now (leaves .entry)))
+        × (now (store .exit) ≡ valueAt 1 (sizingReply sizing) (now (store .entry))) × (now (opening .exit) ≡ valueAt 2 (sizingReply sizing) (now (opening .entry))) ⌝ }
+{
+    match sizing {
+        Sizing::Of(found) => {
+            *leaves = found.leaves;
+            *store = found.store;
+            *opening = found.opening;
+            0
+        }
+        Sizing::Refused(n) => n,
     }
 }

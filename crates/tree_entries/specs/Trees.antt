@@ -11,6 +11,9 @@ use Rattle.merkle.specs.Levels.{build, root}
 use Rattle.merkle.specs.Storeless.{storelessRoot}
 use Rattle.merkle.specs.Openings.{opening, accepts}
 use Rattle.trees.specs.SetTrees.{treeOf, leafCount, leafWords, storeWords, openingWords}
+use Rattle.tree_entries.specs.declared.sizing.Sizing.{Sizing}
+use Rattle.tree_entries.specs.declared.sizing.Sizing.the-variants.{Of}
+use Rattle.tree_entries.specs.declared.sizing.Sizing.the-variants.{Refused as NoSizes}
 use Rattle.tree_entries.specs.declared.verdict.Verdict.{Verdict}
 use Rattle.tree_entries.specs.declared.verdict.Verdict.the-variants.{Accepted, Rejected, Refused}
 
@@ -21,6 +24,14 @@ has xs n = eqb (length xs) n
 -- "11 | a place not below k^h"
 abbrev pub noPlace : ℕ → ParameterSet → ℕ → Refusal
 noPlace p s q = refusal 11 (not (ltb q (leafCount p s)))
+
+-- The sizes of a set's tree, in numbers: of its leaves, of a store, of an opening (Rules 4.2, 4.4, 4.7).
+unfoldable pub sizingReply : Sizing → Reply
+sizingReply (Of sizes) = done (sizes .leaves ∷ sizes .store ∷ sizes .opening ∷ [])
+sizingReply (NoSizes n) = refused n
+
+unfoldable pub sizesReply : ℕ → ParameterSet → Reply
+sizesReply p s = reply (setRefusals p s) (leafWords p s ∷ storeWords p s ∷ openingWords p s ∷ [])
 
 -- Building "takes a lent list of the k^h leaves and a lent store and writes the whole store".
 unfoldable pub buildRefusals : ℕ → ParameterSet → List ℕ → List ℕ → List Refusal

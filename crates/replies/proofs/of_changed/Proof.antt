@@ -3,7 +3,7 @@ use borrow.Author.Needs.{needs}
 use denote.Ref.{now}
 use Rattle.change_entries.specs.declared.changed.Changed.{Changed}
 use Rattle.change_entries.specs.Replacement.{changedReply}
-use Rattle.replies.specs.Replies.{numberOf, valueAfter}
+use Rattle.replies.specs.Replies.{numberOf, valueAt, valueAfter}
 use Rattle.replies.proofs.of_changed.Statement.{statement}
 use Rattle.replies.proofs.of_changed.Tie as tie
 
@@ -14,13 +14,13 @@ enum-known-changed-2 : tie.Need-enum-known-changed-2
 enum-known-changed-2 c = search needs
 
 returns : tie.Need-returns
-unfolding numberOf valueAfter changedReply
+unfolding numberOf valueAt changedReply
 returns c =
     let e = c .before .changed .given .1 in
     (sym (ap (λ (a : Changed). numberOf (changedReply a)) e), sym (ap (λ (a : Changed). valueAfter (changedReply a) (now (c .before .before .before .args .made))) e))
 
 returns-2 : tie.Need-returns-2
-unfolding numberOf valueAfter changedReply
+unfolding numberOf valueAt changedReply
 returns-2 c =
     let e = c .before .changed2 .given .1 in
     (sym (ap (λ (a : Changed). numberOf (changedReply a)) e), sym (ap (λ (a : Changed). valueAfter (changedReply a) (now (c .before .before .before .args .made))) e))

@@ -3,7 +3,7 @@ use borrow.Author.Needs.{needs}
 use denote.Ref.{now}
 use Rattle.extraction_entries.specs.declared.Extraction.{Extraction}
 use Rattle.extraction_entries.specs.Extraction.{extractionReply}
-use Rattle.replies.specs.Replies.{numberOf, valueAfter}
+use Rattle.replies.specs.Replies.{numberOf, valueAt, valueAfter}
 use Rattle.replies.proofs.of_extraction.Statement.{statement}
 use Rattle.replies.proofs.of_extraction.Tie as tie
 
@@ -14,13 +14,13 @@ enum-known-extraction-2 : tie.Need-enum-known-extraction-2
 enum-known-extraction-2 c = search needs
 
 returns : tie.Need-returns
-unfolding numberOf valueAfter extractionReply
+unfolding numberOf valueAt extractionReply
 returns c =
     let e = c .before .extraction .given .1 in
     (sym (ap (λ (a : Extraction). numberOf (extractionReply a)) e), sym (ap (λ (a : Extraction). valueAfter (extractionReply a) (now (c .before .before .before .args .level))) e))
 
 returns-2 : tie.Need-returns-2
-unfolding numberOf valueAfter extractionReply
+unfolding numberOf valueAt extractionReply
 returns-2 c =
     let e = c .before .extraction2 .given .1 in
     (sym (ap (λ (a : Extraction). numberOf (extractionReply a)) e), sym (ap (λ (a : Extraction). valueAfter (extractionReply a) (now (c .before .before .before .args .level))) e))

@@ -12,7 +12,7 @@ returns : tie.Need-returns
 returns c =
     let e = c .before .hold .ensures in
     let o = c .if1 .taken in
-    (turned-number _ _ e o _, turned-buffer _ _ e o _ _, turned-buffer _ _ e o _ _, turned-value _ _ e o _ _)
+    (turned-number _ _ e o _, turned-buffer _ _ e o _ _, turned-buffer _ _ e o _ _, turned-value _ _ e o 0 _ _)
 
 extract-requires : tie.Need-extract-requires
 extract-requires c κs = search needs
@@ -33,7 +33,7 @@ returns-2 c =
     let e = h .before .hold .ensures in
     let z = h .if1 .left in
     let said = w .extract .ensures .0 ∙ passed _ _ e z _ in
-    (c .of-extraction .ensures .0 ∙ ap numberOf said, w .extract .ensures .1 ∙ passed-buffer _ _ e z _ _, w .extract .ensures .2 ∙ passed-buffer _ _ e z _ _, c .of-extraction .ensures .1 ∙ same-value said _)
+    (c .of-extraction .ensures .0 ∙ ap numberOf said, w .extract .ensures .1 ∙ passed-buffer _ _ e z _ _, w .extract .ensures .2 ∙ passed-buffer _ _ e z _ _, c .of-extraction .ensures .1 ∙ same-value 0 said _)
 
 pub opening-tree-extract-spec : {M : Type 1} → statement M
 opening-tree-extract-spec =

@@ -12,7 +12,7 @@ returns : tie.Need-returns
 returns c =
     let e = c .before .hold .ensures in
     let o = c .if1 .taken in
-    (turned-number _ _ e o _, turned-buffer _ _ e o _ _, turned-value _ _ e o _ _)
+    (turned-number _ _ e o _, turned-buffer _ _ e o _ _, turned-value _ _ e o 0 _ _)
 
 push-listed-requires : tie.Need-push-listed-requires
 push-listed-requires c κs = search needs
@@ -30,7 +30,7 @@ returns-2 c =
     let e = h .before .hold .ensures in
     let z = h .if1 .left in
     let said = w .push-listed .ensures .0 ∙ passed _ _ e z _ in
-    (c .of-changed .ensures .0 ∙ ap numberOf said, w .push-listed .ensures .1 ∙ passed-buffer _ _ e z _ _, c .of-changed .ensures .1 ∙ same-value said _)
+    (c .of-changed .ensures .0 ∙ ap numberOf said, w .push-listed .ensures .1 ∙ passed-buffer _ _ e z _ _, c .of-changed .ensures .1 ∙ same-value 0 said _)
 
 pub opening-tree-push-numbers-spec : {M : Type 1} → statement M
 opening-tree-push-numbers-spec =
