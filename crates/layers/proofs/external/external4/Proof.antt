@@ -3,15 +3,6 @@ use borrow.Author.Needs.{needs}
 use Rattle.layers.proofs.external.external4.Statement.{statement}
 use Rattle.layers.proofs.external.external4.Tie as tie
 
-m4-high-requires : tie.Need-m4-high-requires
-m4-high-requires c κs = search needs
-
-m4-low-requires : tie.Need-m4-low-requires
-m4-low-requires c κs = search needs
-
-join-block-requires : tie.Need-join-block-requires
-join-block-requires c κs = search needs
-
 returns : tie.Need-returns
 returns c =
     let l = c .before in
@@ -20,4 +11,4 @@ returns c =
     external-one x (c .join-block .result) (m4-stands x (h .m4-high .result) (l .m4-low .result) (h .m4-high .ensures .0) (l .m4-low .ensures .0)) (c .join-block .ensures)
 
 pub external4-spec : {M : Type 1} → statement M
-external4-spec = tie.close (tie.spec m4-high-requires m4-low-requires join-block-requires returns)
+external4-spec = tie.close (tie.spec (search needs) (search needs) (search needs) returns)

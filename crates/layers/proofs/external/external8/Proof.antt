@@ -5,42 +5,6 @@ use borrow.Author.Needs.{needs}
 use Rattle.layers.proofs.external.external8.Statement.{statement}
 use Rattle.layers.proofs.external.external8.Tie as tie
 
-array-copy-out-m4-low : tie.Need-array-copy-out-m4-low
-array-copy-out-m4-low c = search needs
-
-m4-low-requires : tie.Need-m4-low-requires
-m4-low-requires c κs = search needs
-
-array-copy-out-m4-low-2 : tie.Need-array-copy-out-m4-low-2
-array-copy-out-m4-low-2 c = search needs
-
-m4-low-requires-2 : tie.Need-m4-low-requires-2
-m4-low-requires-2 c κs = search needs
-
-array-copy-out-m4-high : tie.Need-array-copy-out-m4-high
-array-copy-out-m4-high c = search needs
-
-m4-high-requires : tie.Need-m4-high-requires
-m4-high-requires c κs = search needs
-
-array-copy-out-m4-high-2 : tie.Need-array-copy-out-m4-high-2
-array-copy-out-m4-high-2 c = search needs
-
-m4-high-requires-2 : tie.Need-m4-high-requires-2
-m4-high-requires-2 c κs = search needs
-
-sum-blocks-requires : tie.Need-sum-blocks-requires
-sum-blocks-requires c κs = search needs
-
-sum-blocks-requires-2 : tie.Need-sum-blocks-requires-2
-sum-blocks-requires-2 c κs = search needs
-
-mixed-block-requires : tie.Need-mixed-block-requires
-mixed-block-requires c κs = search needs
-
-mixed-block-requires-2 : tie.Need-mixed-block-requires-2
-mixed-block-requires-2 c κs = search needs
-
 returns : tie.Need-returns
 returns c =
     let x = c .before in
@@ -60,16 +24,5 @@ pub external8-spec : {M : Type 1} → statement M
 external8-spec =
     tie.close
     (tie.spec
-    array-copy-out-m4-low
-    m4-low-requires
-    array-copy-out-m4-low-2
-    m4-low-requires-2
-    array-copy-out-m4-high
-    m4-high-requires
-    array-copy-out-m4-high-2
-    m4-high-requires-2
-    sum-blocks-requires
-    sum-blocks-requires-2
-    mixed-block-requires
-    mixed-block-requires-2
-    returns)
+    (search needs) (search needs) (search needs) (search needs) (search needs) (search needs) (search needs) (search needs) (search needs)
+    (search needs) (search needs) (search needs) returns)

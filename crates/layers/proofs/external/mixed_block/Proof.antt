@@ -8,19 +8,9 @@ use borrow.Author.Needs.{needs}
 use Rattle.layers.proofs.external.mixed_block.Statement.{statement}
 use Rattle.layers.proofs.external.mixed_block.Tie as tie
 
-add-sum-requires : tie.Need-add-sum-requires
-add-sum-requires c κs = search needs
-
-add-sum-requires-2 : tie.Need-add-sum-requires-2
-add-sum-requires-2 c κs = search needs
-
-join-block-requires : tie.Need-join-block-requires
-join-block-requires c κs = search needs
-
 returns : tie.Need-returns
 returns c =
     c .join-block .ensures ∙ ap₂ (λ (h l : List ℕ). residues p (joined h l)) (c .before .before .add-sum .ensures .0) (c .before .add-sum2 .ensures .0)
 
 pub mixed-block-spec : {M : Type 1} → statement M
-mixed-block-spec =
-    tie.close (tie.spec add-sum-requires add-sum-requires-2 join-block-requires returns)
+mixed-block-spec = tie.close (tie.spec (search needs) (search needs) (search needs) returns)

@@ -3,16 +3,10 @@ use borrow.Author.Needs.{needs}
 use Rattle.layers.proofs.full.raise.Statement.{statement}
 use Rattle.layers.proofs.full.raise.Tie as tie
 
-sum-requires : tie.Need-sum-requires
-sum-requires c κs = search needs
-
-seventh-power-requires : tie.Need-seventh-power-requires
-seventh-power-requires c κs = search needs
-
 returns : tie.Need-returns
 returns c =
     let s = c .before in
     raised (s .before .args .x) (s .before .args .c) (c .seventh-power .ensures) (s .sum .ensures)
 
 pub raise-spec : {M : Type 1} → statement M
-raise-spec = tie.close (tie.spec sum-requires seventh-power-requires returns)
+raise-spec = tie.close (tie.spec (search needs) (search needs) returns)

@@ -9,30 +9,15 @@ use borrow.Author.Needs.{needs}
 use Rattle.layers.proofs.full.raise12.Statement.{statement}
 use Rattle.layers.proofs.full.raise12.Tie as tie
 
-array-copy-out-raise4 : tie.Need-array-copy-out-raise4
-array-copy-out-raise4 c = search needs
-
 raise4-requires : tie.Need-raise4-requires
 raise4-requires c κs =
     let i = c .before in
     (omega arith, fewer-words (lit< tt) (i .args .at + 4) (i .args .at + 12) (i .args .constants .now) (omega arith) (i .pre .1))
 
-array-copy-out-raise4-2 : tie.Need-array-copy-out-raise4-2
-array-copy-out-raise4-2 c = search needs
-
-add-raise4 : tie.Need-add-raise4
-add-raise4 c = search needs
-
 raise4-requires-2 : tie.Need-raise4-requires-2
 raise4-requires-2 c κs =
     let i = c .before .before .before in
     (omega arith, fewer-words (lit< tt) (i .args .at + 4 + 4) (i .args .at + 12) (i .args .constants .now) (omega arith) (i .pre .1))
-
-array-copy-out-raise4-3 : tie.Need-array-copy-out-raise4-3
-array-copy-out-raise4-3 c = search needs
-
-add-raise4-2 : tie.Need-add-raise4-2
-add-raise4-2 c = search needs
 
 raise4-requires-3 : tie.Need-raise4-requires-3
 raise4-requires-3 c κs =
@@ -51,12 +36,5 @@ pub raise12-spec : {M : Type 1} → statement M
 raise12-spec =
     tie.close
     (tie.spec
-    array-copy-out-raise4
-    raise4-requires
-    array-copy-out-raise4-2
-    add-raise4
-    raise4-requires-2
-    array-copy-out-raise4-3
-    add-raise4-2
-    raise4-requires-3
+    (search needs) raise4-requires (search needs) (search needs) raise4-requires-2 (search needs) (search needs) raise4-requires-3
     returns)

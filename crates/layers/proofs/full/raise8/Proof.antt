@@ -9,19 +9,10 @@ use borrow.Author.Needs.{needs}
 use Rattle.layers.proofs.full.raise8.Statement.{statement}
 use Rattle.layers.proofs.full.raise8.Tie as tie
 
-array-copy-out-raise4 : tie.Need-array-copy-out-raise4
-array-copy-out-raise4 c = search needs
-
 raise4-requires : tie.Need-raise4-requires
 raise4-requires c κs =
     let i = c .before in
     (omega arith, fewer-words (lit< tt) (i .args .at + 4) (i .args .at + 8) (i .args .constants .now) (omega arith) (i .pre .1))
-
-array-copy-out-raise4-2 : tie.Need-array-copy-out-raise4-2
-array-copy-out-raise4-2 c = search needs
-
-add-raise4 : tie.Need-add-raise4
-add-raise4 c = search needs
 
 raise4-requires-2 : tie.Need-raise4-requires-2
 raise4-requires-2 c κs =
@@ -35,12 +26,4 @@ returns c =
     raised-two p (getD (a .t1) 0 []) (getD (a .t1) 1 []) (x .raise4 .result) (c .raise42 .result) (a .constants .now) (a .at) (x .raise4 .ensures) (c .raise42 .ensures)
 
 pub raise8-spec : {M : Type 1} → statement M
-raise8-spec =
-    tie.close
-    (tie.spec
-    array-copy-out-raise4
-    raise4-requires
-    array-copy-out-raise4-2
-    add-raise4
-    raise4-requires-2
-    returns)
+raise8-spec = tie.close (tie.spec (search needs) raise4-requires (search needs) (search needs) raise4-requires-2 returns)

@@ -4,28 +4,13 @@ use borrow.Author.Needs.{needs}
 use Rattle.layers.proofs.partial.add_block.Statement.{statement}
 use Rattle.layers.proofs.partial.add_block.Tie as tie
 
-array-read-add-word : tie.Need-array-read-add-word
-array-read-add-word c = search needs
-
-add-word-requires : tie.Need-add-word-requires
-add-word-requires c κs = search needs
-
-array-read-add-word-2 : tie.Need-array-read-add-word-2
-array-read-add-word-2 c = search needs
-
 add-word-requires-2 : tie.Need-add-word-requires-2
 add-word-requires-2 c κs = at-most-one (c .before .args .high) (c .add-word .result .high) (c .before .pre) (c .add-word .ensures .1)
-
-array-read-add-word-3 : tie.Need-array-read-add-word-3
-array-read-add-word-3 c = search needs
 
 add-word-requires-3 : tie.Need-add-word-requires-3
 add-word-requires-3 c κs =
     let w = c .before in
     at-most-two (w .before .args .high) (w .add-word .result .high) (c .add-word2 .result .high) (w .before .pre) (w .add-word .ensures .1) (c .add-word2 .ensures .1)
-
-array-read-add-word-4 : tie.Need-array-read-add-word-4
-array-read-add-word-4 c = search needs
 
 add-word-requires-4 : tie.Need-add-word-requires-4
 add-word-requires-4 c κs =
@@ -53,12 +38,5 @@ pub add-block-spec : {M : Type 1} → statement M
 add-block-spec =
     tie.close
     (tie.spec
-    array-read-add-word
-    add-word-requires
-    array-read-add-word-2
-    add-word-requires-2
-    array-read-add-word-3
-    add-word-requires-3
-    array-read-add-word-4
-    add-word-requires-4
+    (search needs) (search needs) (search needs) add-word-requires-2 (search needs) add-word-requires-3 (search needs) add-word-requires-4
     returns)

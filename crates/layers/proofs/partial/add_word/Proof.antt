@@ -4,12 +4,6 @@ use borrow.Author.Needs.{needs}
 use Rattle.layers.proofs.partial.add_word.Statement.{statement}
 use Rattle.layers.proofs.partial.add_word.Tie as tie
 
-wrapping-add-u64-requires : tie.Need-wrapping-add-u64-requires
-wrapping-add-u64-requires c κs = search needs
-
-carry-requires : tie.Need-carry-requires
-carry-requires c κs = search needs
-
 add-h : tie.Need-add-h
 add-h c =
     let w = c .before in
@@ -25,4 +19,4 @@ returns c =
     )
 
 pub add-word-spec : {M : Type 1} → statement M
-add-word-spec = tie.close (tie.spec wrapping-add-u64-requires carry-requires add-h returns)
+add-word-spec = tie.close (tie.spec (search needs) (search needs) add-h returns)

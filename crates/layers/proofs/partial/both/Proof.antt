@@ -7,15 +7,6 @@ use borrow.Author.Needs.{needs}
 use Rattle.layers.proofs.partial.both.Statement.{statement}
 use Rattle.layers.proofs.partial.both.Tie as tie
 
-wrapping-add-u64-requires : tie.Need-wrapping-add-u64-requires
-wrapping-add-u64-requires c κs = search needs
-
-add-h : tie.Need-add-h
-add-h c = search needs
-
-carry-requires : tie.Need-carry-requires
-carry-requires c κs = search needs
-
 add-h-2 : tie.Need-add-h-2
 add-h-2 c =
     let w = c .before in
@@ -27,9 +18,6 @@ fold-requires c κs =
     let w = c .before in
     let i = w .before in
     both-small (i .args .ah) (i .args .bh) (c .carry .result) (i .pre .0) (i .pre .1) (carry-small (w .wrapping-add-u64 .result) (i .args .bl) (c .carry .result) (c .carry .ensures))
-
-residue-requires : tie.Need-residue-requires
-residue-requires c κs = search needs
 
 returns : tie.Need-returns
 returns c =
@@ -43,13 +31,4 @@ returns c =
     (carried (a .ah + a .bh) (a .al) (a .bl) s (k .carry .result) (i .fits .al .fits) (i .fits .bl .fits) (w .wrapping-add-u64 .ensures) (k .carry .ensures)))
 
 pub both-spec : {M : Type 1} → statement M
-both-spec =
-    tie.close
-    (tie.spec
-    wrapping-add-u64-requires
-    add-h
-    carry-requires
-    add-h-2
-    fold-requires
-    residue-requires
-    returns)
+both-spec = tie.close (tie.spec (search needs) (search needs) (search needs) add-h-2 fold-requires (search needs) returns)

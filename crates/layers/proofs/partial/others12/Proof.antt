@@ -8,23 +8,8 @@ use borrow.Author.Needs.{needs}
 use Rattle.layers.proofs.partial.others12.Statement.{statement}
 use Rattle.layers.proofs.partial.others12.Tie as tie
 
-array-read-add-word : tie.Need-array-read-add-word
-array-read-add-word c = search needs
-
-array-read-add-word-2 : tie.Need-array-read-add-word-2
-array-read-add-word-2 c = search needs
-
-add-word-requires : tie.Need-add-word-requires
-add-word-requires c κs = search needs
-
 add-block-requires : tie.Need-add-block-requires
 add-block-requires c κs = few (c .add-word .result .high) 0 1 100 (c .add-word .ensures .1) (lit≤ tt)
-
-array-read-add-block : tie.Need-array-read-add-block
-array-read-add-block c = search needs
-
-add-block-requires-2 : tie.Need-add-block-requires-2
-add-block-requires-2 c κs = search needs
 
 both-requires : tie.Need-both-requires
 both-requires c κs =
@@ -53,11 +38,4 @@ pub others12-spec : {M : Type 1} → statement M
 others12-spec =
     tie.close
     (tie.spec
-    array-read-add-word
-    array-read-add-word-2
-    add-word-requires
-    add-block-requires
-    array-read-add-block
-    add-block-requires-2
-    both-requires
-    returns)
+    (search needs) (search needs) (search needs) add-block-requires (search needs) (search needs) both-requires returns)

@@ -9,18 +9,6 @@ use borrow.Author.Needs.{needs}
 use Rattle.layers.proofs.partial.others4.Statement.{statement}
 use Rattle.layers.proofs.partial.others4.Tie as tie
 
-array-read-add-word : tie.Need-array-read-add-word
-array-read-add-word c = search needs
-
-array-read-add-word-2 : tie.Need-array-read-add-word-2
-array-read-add-word-2 c = search needs
-
-add-word-requires : tie.Need-add-word-requires
-add-word-requires c κs = search needs
-
-array-read-both : tie.Need-array-read-both
-array-read-both c = search needs
-
 both-requires : tie.Need-both-requires
 both-requires c κs = (few (c .add-word .result .high) 0 1 100 (c .add-word .ensures .1) (lit≤ tt), lit≤ tt)
 
@@ -35,12 +23,4 @@ returns c =
     (two-alone (a .t1) (ry .high * limit + ry .low) (y .add-word .ensures .0)) (one-alone (a .t1)))
 
 pub others4-spec : {M : Type 1} → statement M
-others4-spec =
-    tie.close
-    (tie.spec
-    array-read-add-word
-    array-read-add-word-2
-    add-word-requires
-    array-read-both
-    both-requires
-    returns)
+others4-spec = tie.close (tie.spec (search needs) (search needs) (search needs) (search needs) both-requires returns)

@@ -9,21 +9,6 @@ use borrow.Author.Needs.{needs}
 use Rattle.layers.proofs.partial.others8.Statement.{statement}
 use Rattle.layers.proofs.partial.others8.Tie as tie
 
-array-read-add-word : tie.Need-array-read-add-word
-array-read-add-word c = search needs
-
-array-read-add-word-2 : tie.Need-array-read-add-word-2
-array-read-add-word-2 c = search needs
-
-add-word-requires : tie.Need-add-word-requires
-add-word-requires c κs = search needs
-
-array-read-add-block : tie.Need-array-read-add-block
-array-read-add-block c = search needs
-
-add-block-requires : tie.Need-add-block-requires
-add-block-requires c κs = search needs
-
 both-requires : tie.Need-both-requires
 both-requires c κs =
     (few (c .before .add-word .result .high) 0 1 100 (c .before .add-word .ensures .1) (lit≤ tt), few (c .add-block .result .high) 0 4 100 (c .add-block .ensures .1) (lit≤ tt))
@@ -41,13 +26,4 @@ returns c =
     (two-alone (a .t1) (ry .high * limit + ry .low) (y .add-word .ensures .0)) (one-and-block (a .t1) (a .b) (rz .high * limit + rz .low) (z .add-block .ensures .0)))
 
 pub others8-spec : {M : Type 1} → statement M
-others8-spec =
-    tie.close
-    (tie.spec
-    array-read-add-word
-    array-read-add-word-2
-    add-word-requires
-    array-read-add-block
-    add-block-requires
-    both-requires
-    returns)
+others8-spec = tie.close (tie.spec (search needs) (search needs) (search needs) (search needs) (search needs) both-requires returns)

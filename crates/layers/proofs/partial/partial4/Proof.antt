@@ -6,51 +6,6 @@ use borrow.Author.Needs.{needs}
 use Rattle.layers.proofs.partial.partial4.Statement.{statement}
 use Rattle.layers.proofs.partial.partial4.Tie as tie
 
-array-read-seventh-power : tie.Need-array-read-seventh-power
-array-read-seventh-power c = search needs
-
-seventh-power-requires : tie.Need-seventh-power-requires
-seventh-power-requires c κs = search needs
-
-others4-requires : tie.Need-others4-requires
-others4-requires c κs = search needs
-
-sum-requires : tie.Need-sum-requires
-sum-requires c κs = search needs
-
-sum-requires-2 : tie.Need-sum-requires-2
-sum-requires-2 c κs = search needs
-
-product-sum-requires : tie.Need-product-sum-requires
-product-sum-requires c κs = search needs
-
-element-copy-out-product-sum : tie.Need-element-copy-out-product-sum
-element-copy-out-product-sum c = search needs
-
-array-read-product-sum : tie.Need-array-read-product-sum
-array-read-product-sum c = search needs
-
-product-sum-requires-2 : tie.Need-product-sum-requires-2
-product-sum-requires-2 c κs = search needs
-
-element-copy-out-product-sum-2 : tie.Need-element-copy-out-product-sum-2
-element-copy-out-product-sum-2 c = search needs
-
-array-read-product-sum-2 : tie.Need-array-read-product-sum-2
-array-read-product-sum-2 c = search needs
-
-product-sum-requires-3 : tie.Need-product-sum-requires-3
-product-sum-requires-3 c κs = search needs
-
-element-copy-out-product-sum-3 : tie.Need-element-copy-out-product-sum-3
-element-copy-out-product-sum-3 c = search needs
-
-array-read-product-sum-3 : tie.Need-array-read-product-sum-3
-array-read-product-sum-3 c = search needs
-
-product-sum-requires-4 : tie.Need-product-sum-requires-4
-product-sum-requires-4 c κs = search needs
-
 returns : tie.Need-returns
 unfolding residues
 returns c =
@@ -73,19 +28,5 @@ pub partial4-spec : {M : Type 1} → statement M
 partial4-spec =
     tie.close
     (tie.spec
-    array-read-seventh-power
-    seventh-power-requires
-    others4-requires
-    sum-requires
-    sum-requires-2
-    product-sum-requires
-    element-copy-out-product-sum
-    array-read-product-sum
-    product-sum-requires-2
-    element-copy-out-product-sum-2
-    array-read-product-sum-2
-    product-sum-requires-3
-    element-copy-out-product-sum-3
-    array-read-product-sum-3
-    product-sum-requires-4
-    returns)
+    (search needs) (search needs) (search needs) (search needs) (search needs) (search needs) (search needs) (search needs) (search needs)
+    (search needs) (search needs) (search needs) (search needs) (search needs) (search needs) returns)
