@@ -1,9 +1,9 @@
 -- What holds of numbers and lists that no row turns down.
-use mathlib.Core.Path.{_≡_, refl, sym, ap, _∙_}
-use mathlib.Core.Logic.{_≢_, _⊎_, inl, inr, ⊎-elim}
-use mathlib.Core.Bool.{Bool, true, false, not, _&&_, _||_, cond, false≢true}
+use mathlib.Core.Path.{_≡_, refl, sym, _∙_}
+use mathlib.Core.Logic.{_≢_, inl, inr}
+use mathlib.Core.Bool.{Bool, true, false, not, _&&_, _||_, false≢true}
 use mathlib.Core.List.{List, [], _∷_, _++_}
-use Prim.Native.Nat.{ℕ, zero, suc, _+_, _*_, _/_, _%_, _^_, _≤_, _<_}
+use Prim.Native.Nat.{ℕ, _+_, _/_, _%_, _^_, _≤_, _<_}
 use native.Mathlib.Nat.{div-le-self, mul-le-mul}
 use native.Mathlib.Omega.{arith}
 use lib.Dec.{eqb, ltb, lit<}
@@ -11,7 +11,7 @@ use lib.ListN.{length}
 use borrow.Author.Tests.{eqb-true, eqb-false, ltb-false}
 use Rattle.modular.specs.Arithmetic.{allWords}
 use Rattle.modular.proofs.Words.{left-true, right-true}
-use Rattle.refusals.specs.Table.{Refusal, refusal, firstRefusal}
+use Rattle.refusals.specs.Table.{refusal, firstRefusal}
 use Rattle.refusals.proofs.Table.{Numbered, none, next, numbered-append, refusal-none, first-none}
 use Rattle.poseidon2.specs.Statements.{Width}
 use Rattle.parameters.specs.Refusals.{badWidth, badNodeSize, badFullRounds, badPartialRounds, badHeight, constantCount, badLengths, hasZero, badDiagonal, numberRefusals, shapeRefusals, listRefusals, validationRefusals}
@@ -158,8 +158,3 @@ shape-fits t l h rf rp D C e =
     let d : length D ≡ t = eqb-true (length D) t (left-true (eqb (length D) t) (eqb (length C) (constantCount t rf rp)) b) in
     let c : length C ≡ constantCount t rf rp = eqb-true (length C) (constantCount t rf rp) (right-true (eqb (length D) t) (eqb (length C) (constantCount t rf rp)) b) in
     (omega (arith, width-fits t (N .width)), omega (arith, count-fits t l h rf rp N))
-
-pub lists-fit : (p t l h rf rp : ℕ) (D C : List ℕ) → firstRefusal (validationRefusals p t l h rf rp D C) ≡ 0 → (length D ≤ 12) × (length C ≤ 208)
-lists-fit p t l h rf rp D C e =
-    shape-fits t l h rf rp D C
-    (first-none (shapeRefusals t l h rf rp D C) (listRefusals p D C) (shape-numbered t l h rf rp D C) (sym (ap firstRefusal (shape-first p t l h rf rp D C)) ∙ e) .0)

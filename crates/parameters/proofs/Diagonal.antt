@@ -1,21 +1,20 @@
 -- Row 9 without inversions: with `all` the product of the first i of D, and `but-one` the sum of the products that leave one of them
 -- out, `but-one` is `all` times the sum of their inverses.
-use mathlib.Core.Path.{_≡_, refl, sym, ap, ap₂, _∙_}
-use mathlib.Core.Logic.{_≢_, _⊎_, inl, inr, ⊎-elim}
-use mathlib.Core.Bool.{Bool, true, false}
+use mathlib.Core.Path.{_≡_, refl, sym, ap, _∙_}
+use mathlib.Core.Logic.{_≢_, _⊎_, ⊎-elim}
+use mathlib.Core.Bool.{true, false}
 use mathlib.Core.List.{List, [], _∷_, _++_, map}
-use Prim.Native.Nat.{ℕ, zero, suc, _+_, _*_, _%_, _<_, _≤_}
-use native.Mathlib.Nat.{add-assoc, zero-add, add-zero, mul-one, mul-zero, mod-lt, mod-mod, mod-eq-of-lt, zero-mod, add-mod}
+use Prim.Native.Nat.{ℕ, zero, _+_, _*_, _%_, _<_}
+use native.Mathlib.Nat.{add-assoc, zero-add, add-zero, mul-one, mul-zero, mod-lt, mod-eq-of-lt, zero-mod}
 use native.Mathlib.Numerals.{add-one}
 use native.Mathlib.Omega.{arith}
-use lib.Dec.{eqb}
 use lib.ListN.{length, getD, take}
 use lib.Seq.{take-suc, take-all}
 use borrow.Author.Tests.{eq-eqb, ne-eqb}
 use Rattle.modular.specs.Arithmetic.{add, mul, inverse}
 use Rattle.modular.specs.Congruence.{_≈⟨_⟩_}
 use Rattle.modular.specs.PrimeField.{PrimeField}
-use Rattle.modular.proofs.Congruence.{refl≈, eq≈, sym≈, trans≈, mod≈, add≈, mul≈, rest≈}
+use Rattle.modular.proofs.Congruence.{refl≈, eq≈, sym≈, trans≈, mod≈, add≈, mul≈}
 use Rattle.modular.proofs.PrimeField.{prime-laws}
 use Rattle.modular.proofs.Ring.{var, num, _⊕_, _⊗_, same?, ring-by, by, nothing}
 use Rattle.poseidon2.specs.Layers.{sum}

@@ -4,4 +4,5 @@ mod Diagonal
 mod Heights
 mod Padding
 pub mod Accepted
+pub mod Answers
 pub mod AcceptedSets

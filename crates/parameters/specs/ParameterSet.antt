@@ -1,7 +1,7 @@
 -- Document 01, "Set": the parameter set, what is read of one that is handed in, and what validation answers.
 use mathlib.Core.Bool.{cond}
-use mathlib.Core.List.{List, [], _∷_, _++_}
-use Prim.Native.Nat.{ℕ, _-_, _/_}
+use mathlib.Core.List.{List, _++_}
+use Prim.Native.Nat.{ℕ, _-_}
 use lib.Dec.{eqb}
 use lib.ListN.{length, take, replicate}
 use Rattle.refusals.specs.Table.{Refusal, firstRefusal}

@@ -383,7 +383,7 @@ pub fn validate(
 ) -> Validation
     ensures { λ r. ⌜ r ≡ validation p width «node_size» height «full_rounds» «partial_rounds» (now (diagonal .entry)) (now (constants .entry)) ⌝ }
 {
-    let number = refusal_of(
+    let held = hold(
         width,
         node_size,
         height,
@@ -392,18 +392,14 @@ pub fn validate(
         diagonal,
         constants,
     );
+    if held.number != 0 {
+        return held;
+    }
+    let number = refusal_of_lists(diagonal, constants);
     if number != 0 {
         return refused(number);
     }
-    set_of(
-        width,
-        node_size,
-        height,
-        full_rounds,
-        partial_rounds,
-        diagonal,
-        constants,
-    )
+    held
 }
 
 // The first numbers of a list.

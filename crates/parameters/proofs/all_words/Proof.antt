@@ -1,18 +1,17 @@
-use mathlib.Core.Path.{_≡_, refl, sym, _∙_}
-use Prim.Native.Nat.{_-_, _≤_}
+use mathlib.Core.Path.{refl, sym, _∙_}
+use Prim.Native.Nat.{_-_}
 use native.Mathlib.Omega.{arith}
 use borrow.Author.Needs.{needs}
-use lib.ListN.{length, drop}
+use lib.ListN.{length}
 use Rattle.modular.specs.Arithmetic.{allWords}
 use Rattle.modular.specs.Goldilocks.{p}
-use Rattle.parameters.proofs.Lists.{words-on, words-stop, words-end}
-use mathlib.Core.Path.{_≡_, sym, ap, _∙_}
-use Prim.Native.Nat.{ℕ, _-_, _≤_}
+use Rattle.modular.proofs.Words.{none-words, word-first, not-word-first}
+use Rattle.parameters.proofs.Lists.{Undecided, decided, undecided, decided-end}
 use Rattle.parameters.proofs.all_words.Statement.{statement}
 use Rattle.parameters.proofs.all_words.Tie as tie
 
 abbrev Inv-loop : tie.InvT-loop
-Inv-loop numbers i₀ i = (i ≤ length numbers) × (allWords p numbers ≡ allWords p (drop i numbers))
+Inv-loop numbers i₀ i = Undecided (allWords p) numbers i
 
 abbrev μ-loop : tie.MeasureT-loop
 μ-loop numbers i₀ i = length numbers - i
@@ -20,44 +19,21 @@ abbrev μ-loop : tie.MeasureT-loop
 loop-holds : tie.Need-loop-holds Inv-loop μ-loop
 loop-holds c = (omega arith, refl)
 
-mul-if1 : tie.Need-mul-if1 Inv-loop μ-loop
-mul-if1 c = search needs
-
-shared-slice-read-if1 : tie.Need-shared-slice-read-if1 Inv-loop μ-loop
-shared-slice-read-if1 c = search needs
-
 returns : tie.Need-returns Inv-loop μ-loop
 returns c =
     let l = c .before .before .before in
-    sym (l .loop .inv .1 ∙ words-stop p (l .before .args .numbers .now) (l .loop .i) (omega arith) (c .if1 .taken))
-
-add-i : tie.Need-add-i Inv-loop μ-loop
-add-i c = search needs
-
-loop-less : tie.Need-loop-less Inv-loop μ-loop
-loop-less c = search needs
+    sym (decided (allWords p) _ _ (l .loop .inv) (omega arith) (not-word-first p _ _ (c .if1 .taken)))
 
 loop-again : tie.Need-loop-again Inv-loop μ-loop
 loop-again c =
     let l = c .before .before .before in
-    (omega arith, l .loop .inv .1 ∙ words-on p (l .before .args .numbers .now) (l .loop .i) (omega arith) (c .if1 .left))
+    undecided (allWords p) _ _ (l .loop .inv) (omega arith) (word-first p _ _ (c .if1 .left))
 
 returns-2 : tie.Need-returns-2 Inv-loop μ-loop
-returns-2 c =
-    let l = c .before in
-    sym (l .loop .inv .1 ∙ words-end p (l .before .args .numbers .now) (l .loop .i) (omega arith))
+returns-2 c = sym (decided-end (allWords p) _ _ (c .before .loop .inv) (omega arith) ∙ none-words p)
 
 pub all-words-spec : {M : Type 1} → statement M
 all-words-spec =
     tie.close
     (tie.spec
-    Inv-loop
-    μ-loop
-    loop-holds
-    mul-if1
-    shared-slice-read-if1
-    returns
-    add-i
-    loop-less
-    loop-again
-    returns-2)
+    Inv-loop μ-loop loop-holds (search needs) (search needs) returns (search needs) (search needs) loop-again returns-2)

@@ -1,7 +1,7 @@
 use mathlib.Core.Path.{_≡_, sym, ap₂, subst, _∙_}
 use native.Mathlib.Nat.{mod-lt}
 use Rattle.modular.specs.Arithmetic.{add}
-use Prim.Native.Nat.{ℕ, _+_, _-_, _%_, _≤_}
+use Prim.Native.Nat.{ℕ, _-_, _%_, _≤_}
 use native.Mathlib.Omega.{arith}
 use borrow.Author.Needs.{needs}
 use lib.ListN.{length}
@@ -23,30 +23,6 @@ abbrev μ-loop : tie.MeasureT-loop
 loop-holds : tie.Need-loop-holds Inv-loop μ-loop
 loop-holds c = (omega arith, none-yet p goldilocks (c .before .args .diagonal .now))
 
-mul-product-sum : tie.Need-mul-product-sum Inv-loop μ-loop
-mul-product-sum c = search needs
-
-shared-slice-read-product-sum : tie.Need-shared-slice-read-product-sum Inv-loop μ-loop
-shared-slice-read-product-sum c = search needs
-
-product-sum-requires : tie.Need-product-sum-requires Inv-loop μ-loop
-product-sum-requires c κs = search needs
-
-mul-product : tie.Need-mul-product Inv-loop μ-loop
-mul-product c = search needs
-
-shared-slice-read-product : tie.Need-shared-slice-read-product Inv-loop μ-loop
-shared-slice-read-product c = search needs
-
-product-requires : tie.Need-product-requires Inv-loop μ-loop
-product-requires c κs = search needs
-
-add-i : tie.Need-add-i Inv-loop μ-loop
-add-i c = search needs
-
-loop-less : tie.Need-loop-less Inv-loop μ-loop
-loop-less c = search needs
-
 loop-again : tie.Need-loop-again Inv-loop μ-loop
 loop-again c =
     let s = c .before .before in
@@ -57,12 +33,6 @@ loop-again c =
       one-more p goldilocks D (l .loop .i) (l .loop .all) (l .loop .but-one) (c .product .result) (s .product-sum .result) (omega arith)
           (nonzero-at D (l .loop .i) (g .pre .1) (omega arith)) (words-at p D (l .loop .i) (g .pre .0) (omega arith)) (l .loop .inv .1) (c .product .ensures) (s .product-sum .ensures),
     )
-
-residue-requires : tie.Need-residue-requires Inv-loop μ-loop
-residue-requires c κs = search needs
-
-residue-requires-2 : tie.Need-residue-requires-2 Inv-loop μ-loop
-residue-requires-2 c κs = search needs
 
 sum-requires : tie.Need-sum-requires Inv-loop μ-loop
 sum-requires c κs = (rw (c .before .residue .ensures) (mod-lt _ (lit< tt)), rw (c .residue2 .ensures) (mod-lt _ (lit< tt)))
@@ -88,20 +58,5 @@ pub bad-diagonal-spec : {M : Type 1} → statement M
 bad-diagonal-spec =
     tie.close
     (tie.spec
-    Inv-loop
-    μ-loop
-    loop-holds
-    mul-product-sum
-    shared-slice-read-product-sum
-    product-sum-requires
-    mul-product
-    shared-slice-read-product
-    product-requires
-    add-i
-    loop-less
-    loop-again
-    residue-requires
-    residue-requires-2
-    sum-requires
-    returns
-    returns-2)
+    Inv-loop μ-loop loop-holds (search needs) (search needs) (search needs) (search needs) (search needs) (search needs) (search needs)
+    (search needs) loop-again (search needs) (search needs) sum-requires returns returns-2)

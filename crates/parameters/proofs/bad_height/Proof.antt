@@ -1,4 +1,4 @@
-use mathlib.Core.Path.{_≡_, refl, sym, ap, _∙_}
+use mathlib.Core.Path.{_≡_, sym, ap, _∙_}
 use Prim.Native.Nat.{ℕ, _*_, _^_, _-_, _≤_}
 use native.Mathlib.Nat.{pow-zero}
 use native.Mathlib.Omega.{arith}
@@ -28,12 +28,6 @@ returns-2 c =
     let a = l .before .before .args in
     sym (too-many (a .arity) (l .loop .i) (a .height) (l .loop .leaves) (omega arith) (omega arith) (omega arith) (l .loop .inv .1) (c .if2 .taken))
 
-add-i : tie.Need-add-i Inv-loop μ-loop
-add-i c = search needs
-
-loop-less : tie.Need-loop-less Inv-loop μ-loop
-loop-less c = search needs
-
 loop-again : tie.Need-loop-again Inv-loop μ-loop
 loop-again c =
     let l = c .before .before in
@@ -51,13 +45,4 @@ pub bad-height-spec : {M : Type 1} → statement M
 bad-height-spec =
     tie.close
     (tie.spec
-    Inv-loop
-    μ-loop
-    returns
-    loop-holds
-    mul-leaves
-    returns-2
-    add-i
-    loop-less
-    loop-again
-    returns-3)
+    Inv-loop μ-loop returns loop-holds mul-leaves returns-2 (search needs) (search needs) loop-again returns-3)

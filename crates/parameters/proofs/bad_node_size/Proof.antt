@@ -8,15 +8,9 @@ returns : tie.Need-returns
 unfolding badNodeSize
 returns c = simp (eq-eqb _ _ (c .if1 .taken))
 
-rem-if2 : tie.Need-rem-if2
-rem-if2 c = search needs
-
 returns-2 : tie.Need-returns-2
 unfolding badNodeSize
 returns-2 c = simp (ne-eqb _ _ (c .before .if1 .left), ne-eqb _ _ (c .if2 .taken))
-
-div-if3 : tie.Need-div-if3
-div-if3 c = search needs
 
 returns-3 : tie.Need-returns-3
 unfolding badNodeSize
@@ -27,4 +21,4 @@ unfolding badNodeSize
 returns-4 c = simp (ne-eqb _ _ (c .before .before .if1 .left), eq-eqb _ _ (c .before .if2 .left), le-ltb _ _ (c .if3 .left))
 
 pub bad-node-size-spec : {M : Type 1} → statement M
-bad-node-size-spec = tie.close (tie.spec returns rem-if2 returns-2 div-if3 returns-3 returns-4)
+bad-node-size-spec = tie.close (tie.spec returns (search needs) returns-2 (search needs) returns-3 returns-4)

@@ -7,8 +7,5 @@ use Rattle.parameters.proofs.first.Tie as tie
 slice-aggregate-result : tie.Need-slice-aggregate-result
 slice-aggregate-result c = sym (length-take-le _ _ (c .before .pre))
 
-returns : tie.Need-returns
-returns c = search needs
-
 pub first-spec : {M : Type 1} → statement M
-first-spec = tie.close (tie.spec slice-aggregate-result returns)
+first-spec = tie.close (tie.spec slice-aggregate-result (search needs))

@@ -1,4 +1,4 @@
-use mathlib.Core.Path.{_≡_, sym, ap, _∙_}
+use mathlib.Core.Path.{sym, ap, _∙_}
 use borrow.Author.Needs.{needs}
 use Rattle.refusals.specs.Table.{firstRefusal}
 use Rattle.refusals.proofs.Table.{first-front, first-back}
@@ -6,16 +6,10 @@ use Rattle.parameters.proofs.Accepted.{shape-numbered, shape-first}
 use Rattle.parameters.proofs.refusal_of.Statement.{statement}
 use Rattle.parameters.proofs.refusal_of.Tie as tie
 
-refusal-of-shape-requires : tie.Need-refusal-of-shape-requires
-refusal-of-shape-requires c κs = search needs
-
 returns : tie.Need-returns
 returns c =
     let e = c .before .refusal-of-shape .ensures in
     e ∙ sym (ap firstRefusal (shape-first _ _ _ _ _ _ _ _) ∙ first-front _ _ (λ z. c .if1 .taken (e ∙ z)))
-
-refusal-of-lists-requires : tie.Need-refusal-of-lists-requires
-refusal-of-lists-requires c κs = search needs
 
 returns-2 : tie.Need-returns-2
 returns-2 c =
@@ -25,4 +19,4 @@ returns-2 c =
     ∙ first-back _ _ (shape-numbered _ _ _ _ _ _ _) (sym (s .before .refusal-of-shape .ensures) ∙ s .if1 .left))
 
 pub refusal-of-spec : {M : Type 1} → statement M
-refusal-of-spec = tie.close (tie.spec refusal-of-shape-requires returns refusal-of-lists-requires returns-2)
+refusal-of-spec = tie.close (tie.spec (search needs) returns (search needs) returns-2)

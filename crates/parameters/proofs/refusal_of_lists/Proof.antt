@@ -6,15 +6,9 @@ use Rattle.parameters.specs.Refusals.{listRefusals}
 use Rattle.parameters.proofs.refusal_of_lists.Statement.{statement}
 use Rattle.parameters.proofs.refusal_of_lists.Tie as tie
 
-all-words-requires : tie.Need-all-words-requires
-all-words-requires c κs = search needs
-
 returns : tie.Need-returns
 unfolding firstRefusal listRefusals
 returns c = simp (sym (c .before .all-words .ensures) ∙ not-true _ (c .if1 .taken))
-
-all-words-requires-2 : tie.Need-all-words-requires-2
-all-words-requires-2 c κs = search needs
 
 returns-2 : tie.Need-returns-2
 unfolding firstRefusal listRefusals
@@ -23,9 +17,6 @@ returns-2 c =
       sym (c .before .before .before .all-words .ensures) ∙ not-false _ (c .before .before .if1 .left),
       sym (c .before .all-words2 .ensures) ∙ not-true _ (c .if2 .taken),
     )
-
-has-zero-requires : tie.Need-has-zero-requires
-has-zero-requires c κs = search needs
 
 returns-3 : tie.Need-returns-3
 unfolding firstRefusal listRefusals
@@ -63,12 +54,4 @@ pub refusal-of-lists-spec : {M : Type 1} → statement M
 refusal-of-lists-spec =
     tie.close
     (tie.spec
-    all-words-requires
-    returns
-    all-words-requires-2
-    returns-2
-    has-zero-requires
-    returns-3
-    bad-diagonal-requires
-    returns-4
-    returns-5)
+    (search needs) returns (search needs) returns-2 (search needs) returns-3 bad-diagonal-requires returns-4 returns-5)

@@ -7,16 +7,10 @@ use Rattle.parameters.proofs.Accepted.{node-size-of, arity-bounds}
 use Rattle.parameters.proofs.refusal_of_numbers.Statement.{statement}
 use Rattle.parameters.proofs.refusal_of_numbers.Tie as tie
 
-bad-width-requires : tie.Need-bad-width-requires
-bad-width-requires c κs = search needs
-
 returns : tie.Need-returns
 unfolding firstRefusal numberRefusals
 returns c =
     simp (sym (c .before .bad-width .ensures) ∙ c .if1 .taken)
-
-bad-node-size-requires : tie.Need-bad-node-size-requires
-bad-node-size-requires c κs = search needs
 
 returns-2 : tie.Need-returns-2
 unfolding firstRefusal numberRefusals
@@ -26,9 +20,6 @@ returns-2 c =
       sym (c .before .before .before .bad-width .ensures) ∙ c .before .before .if1 .left,
     )
 
-bad-full-rounds-requires : tie.Need-bad-full-rounds-requires
-bad-full-rounds-requires c κs = search needs
-
 returns-3 : tie.Need-returns-3
 unfolding firstRefusal numberRefusals
 returns-3 c =
@@ -37,9 +28,6 @@ returns-3 c =
       sym (c .before .before .before .bad-node-size .ensures) ∙ c .before .before .if2 .left,
       sym (c .before .before .before .before .before .bad-width .ensures) ∙ c .before .before .before .before .if1 .left,
     )
-
-bad-partial-rounds-requires : tie.Need-bad-partial-rounds-requires
-bad-partial-rounds-requires c κs = search needs
 
 returns-4 : tie.Need-returns-4
 unfolding firstRefusal numberRefusals
@@ -86,15 +74,5 @@ pub refusal-of-numbers-spec : {M : Type 1} → statement M
 refusal-of-numbers-spec =
     tie.close
     (tie.spec
-    bad-width-requires
-    returns
-    bad-node-size-requires
-    returns-2
-    bad-full-rounds-requires
-    returns-3
-    bad-partial-rounds-requires
-    returns-4
-    div-bad-height
-    bad-height-requires
-    returns-5
-    returns-6)
+    (search needs) returns (search needs) returns-2 (search needs) returns-3 (search needs) returns-4 div-bad-height bad-height-requires
+    returns-5 returns-6)

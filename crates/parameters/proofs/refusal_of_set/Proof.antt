@@ -1,4 +1,4 @@
-use mathlib.Core.Path.{_≡_, sym, ap, _∙_}
+use mathlib.Core.Path.{_≡_, sym, _∙_}
 use mathlib.Core.List.{List}
 use Prim.Native.Nat.{ℕ}
 use native.Mathlib.Omega.{arith}
@@ -14,9 +14,6 @@ use Rattle.parameters.proofs.refusal_of_set.Tie as tie
 
 same-lists : {D E C F : List ℕ} → D ≡ E → C ≡ F → firstRefusal (listRefusals p D C) ≡ firstRefusal (listRefusals p E F)
 same-lists e f = cc
-
-refusal-of-numbers-requires : tie.Need-refusal-of-numbers-requires
-refusal-of-numbers-requires c κs = search needs
 
 returns : tie.Need-returns
 unfolding heldRefusals
@@ -45,9 +42,6 @@ first-requires-2 c κs =
     let N = numbers-of _ _ _ _ _ (sym (n .before .refusal-of-numbers .ensures) ∙ n .if1 .left) in
     omega (arith, count-fits _ _ _ _ _ N)
 
-refusal-of-lists-requires : tie.Need-refusal-of-lists-requires
-refusal-of-lists-requires c κs = search needs
-
 returns-2 : tie.Need-returns-2
 unfolding heldRefusals constantCount
 returns-2 c =
@@ -59,14 +53,4 @@ returns-2 c =
     ∙ sym (first-back _ _ (numbers-numbered _ _ _ _ _) (sym (n .before .refusal-of-numbers .ensures) ∙ n .if1 .left))
 
 pub refusal-of-set-spec : {M : Type 1} → statement M
-refusal-of-set-spec =
-    tie.close
-    (tie.spec
-    refusal-of-numbers-requires
-    returns
-    mul-count
-    add-count
-    first-requires
-    first-requires-2
-    refusal-of-lists-requires
-    returns-2)
+refusal-of-set-spec = tie.close (tie.spec (search needs) returns mul-count add-count first-requires first-requires-2 (search needs) returns-2)

@@ -1,4 +1,4 @@
-use mathlib.Core.Path.{_≡_, sym, _∙_}
+use mathlib.Core.Path.{sym, _∙_}
 use mathlib.Core.List.{[]}
 use borrow.Author.Needs.{needs}
 use Rattle.refusals.specs.Table.{firstRefusal}
@@ -7,9 +7,6 @@ use Rattle.parameters.specs.Refusals.{shapeRefusals}
 use Rattle.parameters.proofs.Accepted.{numbers-of, numbers-numbered, width-fits}
 use Rattle.parameters.proofs.refusal_of_shape.Statement.{statement}
 use Rattle.parameters.proofs.refusal_of_shape.Tie as tie
-
-refusal-of-numbers-requires : tie.Need-refusal-of-numbers-requires
-refusal-of-numbers-requires c κs = search needs
 
 returns : tie.Need-returns
 unfolding shapeRefusals
@@ -37,5 +34,4 @@ returns-3 c =
     ∙ refusal-passes 6 _ [] (sym (c .before .bad-lengths .ensures) ∙ c .if2 .left))
 
 pub refusal-of-shape-spec : {M : Type 1} → statement M
-refusal-of-shape-spec =
-    tie.close (tie.spec refusal-of-numbers-requires returns bad-lengths-requires returns-2 returns-3)
+refusal-of-shape-spec = tie.close (tie.spec (search needs) returns bad-lengths-requires returns-2 returns-3)

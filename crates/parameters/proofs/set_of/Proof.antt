@@ -1,16 +1,10 @@
 use mathlib.Core.List.{List}
-use mathlib.Core.Path.{_≡_, ap₂}
+use mathlib.Core.Path.{ap₂}
 use Prim.Native.Nat.{ℕ}
 use borrow.Author.Needs.{needs}
 use Rattle.parameters.specs.ParameterSet.{held}
 use Rattle.parameters.proofs.set_of.Statement.{statement}
 use Rattle.parameters.proofs.set_of.Tie as tie
-
-hold-diagonal-requires : tie.Need-hold-diagonal-requires
-hold-diagonal-requires c κs = search needs
-
-hold-constants-requires : tie.Need-hold-constants-requires
-hold-constants-requires c κs = search needs
 
 returns : tie.Need-returns
 unfolding held
@@ -30,4 +24,4 @@ returns c =
     }) (c .before .hold-diagonal .ensures) (c .hold-constants .ensures)
 
 pub set-of-spec : {M : Type 1} → statement M
-set-of-spec = tie.close (tie.spec hold-diagonal-requires hold-constants-requires returns)
+set-of-spec = tie.close (tie.spec (search needs) (search needs) returns)
