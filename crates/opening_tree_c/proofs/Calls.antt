@@ -1,5 +1,5 @@
--- A call through a set that is handed in as numbers and lists: turned down by refusals 1 to 6 with everything as it was, or what the entry does
--- with the set that holds them. `w` is what the code has in hand, `v` what the definitions say of it.
+-- A call through a set that is handed in as numbers and lists: refused by its shape with everything as it was, or what the entry does with
+-- the set that holds them. `w` is what the code has in hand, `v` what the definitions say of it.
 use mathlib.Core.Path.{_≡_, sym, ap, _∙_}
 use mathlib.Core.Logic.{_≢_}
 use mathlib.Core.List.{List}
@@ -7,41 +7,54 @@ use Prim.Native.Nat.{ℕ}
 use borrow.Author.Tests.{eq-eqb, ne-eqb}
 use Rattle.refusals.specs.Table.{Reply, refused}
 use Rattle.parameters.specs.declared.ParameterSet.{ParameterSet}
-use Rattle.parameters.specs.declared.Validation.{Validation}
+use Rattle.parameters.specs.declared.Held.{Held}
 use Rattle.replies.specs.Replies.{numberOf, verdictNumber, valueAt}
 use Rattle.opening_tree_c.specs.Exports.{through, leaving}
 
-module _ (w v : Validation) (e : w ≡ v) where
+-- the same reply as numbers
+pub number-of : {r : ℕ} {a b : Reply} → r ≡ numberOf a → a ≡ b → r ≡ numberOf b
+number-of f e = f ∙ ap numberOf e
+
+pub value-of : (i old : ℕ) {r : ℕ} {a b : Reply} → r ≡ valueAt i a old → a ≡ b → r ≡ valueAt i b old
+value-of i old f e = f ∙ ap (λ (a : Reply). valueAt i a old) e
+
+module _ {w v : Held} (e : w ≡ v) where
   module _ (o : w .number ≢ 0) where
-    turned : (entry : ParameterSet → Reply) → through v entry ≡ refused (w .number)
+    refused-reply : (entry : ParameterSet → Reply) → through v entry ≡ refused (w .number)
     unfolding through
-    turned entry = sym (ap (λ (u : Validation). through u entry) e) ∙ rw (ne-eqb (w .number) 0 o)
+    refused-reply entry = sym (ap (λ (u : Held). through u entry) e) ∙ rw (ne-eqb (w .number) 0 o)
 
-    pub turned-number : (entry : ParameterSet → Reply) → w .number ≡ numberOf (through v entry)
+    pub refused-number : (entry : ParameterSet → Reply) → w .number ≡ numberOf (through v entry)
     unfolding numberOf
-    turned-number entry = sym (ap numberOf (turned entry))
+    refused-number entry = sym (ap numberOf (refused-reply entry))
 
-    pub turned-verdict : (entry : ParameterSet → Reply) → w .number ≡ verdictNumber (through v entry)
+    pub refused-verdict : (entry : ParameterSet → Reply) → w .number ≡ verdictNumber (through v entry)
     unfolding verdictNumber
-    turned-verdict entry = sym (ap verdictNumber (turned entry))
+    refused-verdict entry = sym (ap verdictNumber (refused-reply entry))
 
-    pub turned-value : (i : ℕ) (entry : ParameterSet → Reply) (old : ℕ) → old ≡ valueAt i (through v entry) old
+    pub refused-value : (i : ℕ) (entry : ParameterSet → Reply) (old : ℕ) → old ≡ valueAt i (through v entry) old
     unfolding valueAt
-    turned-value i entry old = sym (ap (λ (r : Reply). valueAt i r old) (turned entry))
+    refused-value i entry old = sym (ap (λ (r : Reply). valueAt i r old) (refused-reply entry))
 
-    pub turned-buffer : (work : ParameterSet → List ℕ) (old : List ℕ) → old ≡ leaving v work old
+    pub refused-buffer : (work : ParameterSet → List ℕ) (old : List ℕ) → old ≡ leaving v work old
     unfolding leaving
-    turned-buffer work old = sym (sym (ap (λ (u : Validation). leaving u work old) e) ∙ rw (ne-eqb (w .number) 0 o))
+    refused-buffer work old = sym (sym (ap (λ (u : Held). leaving u work old) e) ∙ rw (ne-eqb (w .number) 0 o))
 
   module _ (z : w .number ≡ 0) where
-    pub passed : (entry : ParameterSet → Reply) → entry (w .parameters) ≡ through v entry
+    pub entry-reply : (entry : ParameterSet → Reply) → entry (w .set) ≡ through v entry
     unfolding through
-    passed entry = sym (sym (ap (λ (u : Validation). through u entry) e) ∙ rw (eq-eqb (w .number) 0 z))
+    entry-reply entry = sym (sym (ap (λ (u : Held). through u entry) e) ∙ rw (eq-eqb (w .number) 0 z))
 
-    pub passed-buffer : (work : ParameterSet → List ℕ) (old : List ℕ) → work (w .parameters) ≡ leaving v work old
+    -- what is returned, of a reply that is the entry's
+    pub entry-number : (entry : ParameterSet → Reply) {r : ℕ} {a : Reply} → r ≡ numberOf a → a ≡ entry (w .set) → r ≡ numberOf (through v entry)
+    entry-number entry f g = number-of f (g ∙ entry-reply entry)
+
+    pub entry-verdict : (entry : ParameterSet → Reply) {r : ℕ} {a : Reply} → r ≡ verdictNumber a → a ≡ entry (w .set) → r ≡ verdictNumber (through v entry)
+    entry-verdict entry f g = f ∙ ap verdictNumber (g ∙ entry-reply entry)
+
+    pub entry-value : (i : ℕ) (entry : ParameterSet → Reply) (old : ℕ) {r : ℕ} {a : Reply} → r ≡ valueAt i a old → a ≡ entry (w .set) → r ≡ valueAt i (through v entry) old
+    entry-value i entry old f g = value-of i old f (g ∙ entry-reply entry)
+
+    pub entry-buffer : (work : ParameterSet → List ℕ) (old : List ℕ) {xs : List ℕ} → xs ≡ work (w .set) → xs ≡ leaving v work old
     unfolding leaving
-    passed-buffer work old = sym (sym (ap (λ (u : Validation). leaving u work old) e) ∙ rw (eq-eqb (w .number) 0 z))
-
--- the same reply leaves the same value
-pub same-value : (i : ℕ) {a b : Reply} → a ≡ b → (old : ℕ) → valueAt i a old ≡ valueAt i b old
-same-value i e old = ap (λ (r : Reply). valueAt i r old) e
+    entry-buffer work old g = g ∙ sym (sym (ap (λ (u : Held). leaving u work old) e) ∙ rw (eq-eqb (w .number) 0 z))

@@ -6,12 +6,12 @@ use Prim.Native.Nat.{ℕ}
 use lib.Dec.{eqb}
 use Rattle.refusals.specs.Table.{Reply, refused}
 use Rattle.parameters.specs.declared.ParameterSet.{ParameterSet}
-use Rattle.parameters.specs.declared.Validation.{Validation}
+use Rattle.parameters.specs.declared.Held.{Held}
 
 -- the reply, of the entry's
-unfoldable pub through : Validation → (ParameterSet → Reply) → Reply
-through v entry = cond (eqb (v .number) 0) (entry (v .parameters)) (refused (v .number))
+unfoldable pub through : Held → (ParameterSet → Reply) → Reply
+through v entry = cond (eqb (v .number) 0) (entry (v .set)) (refused (v .number))
 
 -- what a buffer holds afterwards, of what the entry leaves in it and what it held
-unfoldable pub leaving : Validation → (ParameterSet → List ℕ) → List ℕ → List ℕ
-leaving v work old = cond (eqb (v .number) 0) (work (v .parameters)) old
+unfoldable pub leaving : Held → (ParameterSet → List ℕ) → List ℕ → List ℕ
+leaving v work old = cond (eqb (v .number) 0) (work (v .set)) old

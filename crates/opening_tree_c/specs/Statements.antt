@@ -5,7 +5,7 @@ use mathlib.Core.List.{List}
 use Prim.Native.Nat.{ℕ}
 use Rattle.modular.specs.Goldilocks.{p}
 use Rattle.refusals.specs.Table.{firstRefusal}
-use Rattle.parameters.specs.declared.Validation.{Validation}
+use Rattle.parameters.specs.declared.Held.{Held}
 use Rattle.merkle.specs.Openings.{accepts}
 use Rattle.trees.specs.SetTrees.{treeOf}
 use Rattle.tree_entries.specs.Trees.{verifyRefusals, verifyReply}
@@ -13,16 +13,16 @@ use Rattle.replies.specs.Replies.{verdictNumber}
 use Rattle.opening_tree_c.specs.Exports.{through}
 
 -- No row applies to the set, the root, the place, the leaf and the siblings, and the leaf ends in the root.
-pub record Yes (v : Validation) (top : List ℕ) (q : ℕ) (leaf siblings : List ℕ) : Type 0 where
+pub record Yes (v : Held) (top : List ℕ) (q : ℕ) (leaf siblings : List ℕ) : Type 0 where
   pub held : v .number ≡ 0
-  pub unrefused : firstRefusal (verifyRefusals p (v .parameters) top q leaf siblings) ≡ 0
-  pub accepted : accepts (treeOf p (v .parameters)) (v .parameters .height) top q leaf siblings ≡ true
+  pub unrefused : firstRefusal (verifyRefusals p (v .set) top q leaf siblings) ≡ 0
+  pub accepted : accepts (treeOf p (v .set)) (v .set .height) top q leaf siblings ≡ true
 
 -- the number returned
-abbrev pub returned : Validation → List ℕ → ℕ → List ℕ → List ℕ → ℕ
+abbrev pub returned : Held → List ℕ → ℕ → List ℕ → List ℕ → ℕ
 returned v top q leaf siblings = verdictNumber (through v (λ s. verifyReply p s top q leaf siblings))
 
 abbrev pub OnlyYes : Type 0
 OnlyYes =
-    (v : Validation) (top : List ℕ) (q : ℕ) (leaf siblings : List ℕ)
+    (v : Held) (top : List ℕ) (q : ℕ) (leaf siblings : List ℕ)
     → (returned v top q leaf siblings ≡ 0 → Yes v top q leaf siblings) × (Yes v top q leaf siblings → returned v top q leaf siblings ≡ 0)

@@ -27,20 +27,12 @@ pub extern "C" fn opening_tree_replace(
         × (now (store .exit) ≡ leaving (holding width «node_size» height «full_rounds» «partial_rounds» (now (diagonal .entry)) (now (constants .entry))) (λ s. replaced p s (now (store .entry)) place (now (leaf .entry))) (now (store .entry)))
         × (now (made .exit) ≡ valueAfter (through (holding width «node_size» height «full_rounds» «partial_rounds» (now (diagonal .entry)) (now (constants .entry))) (λ s. replaceReply p s (now (store .entry)) place (now (leaf .entry)))) (now (made .entry))) ⌝ }
 {
-    let v = parameters::hold(
-        width,
-        node_size,
-        height,
-        full_rounds,
-        partial_rounds,
-        diagonal,
-        constants,
-    );
-    let number = v.number;
-    if number != 0 {
-        return number;
+    let numbers = [width, node_size, height, full_rounds, partial_rounds];
+    let held = parameters::hold(numbers, diagonal, constants);
+    if held.number != 0 {
+        return held.number;
     }
-    let set = v.parameters;
+    let set = held.set;
     replies::of_changed(opening_tree::replace(set, store, place, leaf), made)
 }
 
@@ -62,20 +54,12 @@ pub extern "C" fn opening_tree_push_numbers(
         × (now (store .exit) ≡ leaving (holding width «node_size» height «full_rounds» «partial_rounds» (now (diagonal .entry)) (now (constants .entry))) (λ s. listedPushed p s (now (store .entry)) (now (records .entry))) (now (store .entry)))
         × (now (made .exit) ≡ valueAfter (through (holding width «node_size» height «full_rounds» «partial_rounds» (now (diagonal .entry)) (now (constants .entry))) (λ s. listedReply p s (now (store .entry)) (now (records .entry)))) (now (made .entry))) ⌝ }
 {
-    let v = parameters::hold(
-        width,
-        node_size,
-        height,
-        full_rounds,
-        partial_rounds,
-        diagonal,
-        constants,
-    );
-    let number = v.number;
-    if number != 0 {
-        return number;
+    let numbers = [width, node_size, height, full_rounds, partial_rounds];
+    let held = parameters::hold(numbers, diagonal, constants);
+    if held.number != 0 {
+        return held.number;
     }
-    let set = v.parameters;
+    let set = held.set;
     replies::of_changed(opening_tree::push_listed(set, store, records), made)
 }
 
@@ -104,20 +88,12 @@ pub extern "C" fn opening_tree_extract(
         × (now («second_row» .exit) ≡ leaving (holding width «node_size» height «full_rounds» «partial_rounds» (now (diagonal .entry)) (now (constants .entry))) (λ s. extractedSecond p s (pair (now (root .entry)) place (now (first .entry)) (now («first_siblings» .entry)) (now (second .entry)) (now («second_siblings» .entry))) (now («first_row» .entry)) (now («second_row» .entry))) (now («second_row» .entry)))
         × (now (level .exit) ≡ valueAfter (through (holding width «node_size» height «full_rounds» «partial_rounds» (now (diagonal .entry)) (now (constants .entry))) (λ s. extractReply p s (pair (now (root .entry)) place (now (first .entry)) (now («first_siblings» .entry)) (now (second .entry)) (now («second_siblings» .entry))) (now («first_row» .entry)) (now («second_row» .entry)))) (now (level .entry))) ⌝ }
 {
-    let v = parameters::hold(
-        width,
-        node_size,
-        height,
-        full_rounds,
-        partial_rounds,
-        diagonal,
-        constants,
-    );
-    let number = v.number;
-    if number != 0 {
-        return number;
+    let numbers = [width, node_size, height, full_rounds, partial_rounds];
+    let held = parameters::hold(numbers, diagonal, constants);
+    if held.number != 0 {
+        return held.number;
     }
-    let set = v.parameters;
+    let set = held.set;
     replies::of_extraction(
         opening_tree::extract(
             set,

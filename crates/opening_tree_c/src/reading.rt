@@ -23,19 +23,11 @@ pub extern "C" fn opening_tree_read_level(
     ensures { λ r. ⌜ (r ≡ numberOf (through (holding width «node_size» height «full_rounds» «partial_rounds» (now (diagonal .entry)) (now (constants .entry))) (λ s. copyReply p s (now (siblings .entry)) level (now (part .entry)))))
         × (now (part .exit) ≡ leaving (holding width «node_size» height «full_rounds» «partial_rounds» (now (diagonal .entry)) (now (constants .entry))) (λ s. copied p s (now (siblings .entry)) level (now (part .entry))) (now (part .entry))) ⌝ }
 {
-    let v = parameters::hold(
-        width,
-        node_size,
-        height,
-        full_rounds,
-        partial_rounds,
-        diagonal,
-        constants,
-    );
-    let number = v.number;
-    if number != 0 {
-        return number;
+    let numbers = [width, node_size, height, full_rounds, partial_rounds];
+    let held = parameters::hold(numbers, diagonal, constants);
+    if held.number != 0 {
+        return held.number;
     }
-    let set = v.parameters;
+    let set = held.set;
     replies::of_outcome(opening_tree::copy_level(set, siblings, level, part))
 }

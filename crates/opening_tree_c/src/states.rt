@@ -47,20 +47,12 @@ pub extern "C" fn opening_tree_permute(
     ensures { λ r. ⌜ (r ≡ numberOf (through (holding width «node_size» height «full_rounds» «partial_rounds» (now (diagonal .entry)) (now (constants .entry))) (λ s. stateReply p s (now (state .entry)))))
         × (now (state .exit) ≡ leaving (holding width «node_size» height «full_rounds» «partial_rounds» (now (diagonal .entry)) (now (constants .entry))) (λ s. permuted p s (now (state .entry))) (now (state .entry))) ⌝ }
 {
-    let v = parameters::hold(
-        width,
-        node_size,
-        height,
-        full_rounds,
-        partial_rounds,
-        diagonal,
-        constants,
-    );
-    let number = v.number;
-    if number != 0 {
-        return number;
+    let numbers = [width, node_size, height, full_rounds, partial_rounds];
+    let held = parameters::hold(numbers, diagonal, constants);
+    if held.number != 0 {
+        return held.number;
     }
-    let set = v.parameters;
+    let set = held.set;
     replies::of_outcome(opening_tree::permute(set, state))
 }
 
@@ -79,20 +71,12 @@ pub extern "C" fn opening_tree_unpermute(
     ensures { λ r. ⌜ (r ≡ numberOf (through (holding width «node_size» height «full_rounds» «partial_rounds» (now (diagonal .entry)) (now (constants .entry))) (λ s. stateReply p s (now (state .entry)))))
         × (now (state .exit) ≡ leaving (holding width «node_size» height «full_rounds» «partial_rounds» (now (diagonal .entry)) (now (constants .entry))) (λ s. unpermuted p s (now (state .entry))) (now (state .entry))) ⌝ }
 {
-    let v = parameters::hold(
-        width,
-        node_size,
-        height,
-        full_rounds,
-        partial_rounds,
-        diagonal,
-        constants,
-    );
-    let number = v.number;
-    if number != 0 {
-        return number;
+    let numbers = [width, node_size, height, full_rounds, partial_rounds];
+    let held = parameters::hold(numbers, diagonal, constants);
+    if held.number != 0 {
+        return held.number;
     }
-    let set = v.parameters;
+    let set = held.set;
     replies::of_outcome(opening_tree::unpermute(set, state))
 }
 
@@ -112,19 +96,11 @@ pub extern "C" fn opening_tree_compress(
     ensures { λ r. ⌜ (r ≡ numberOf (through (holding width «node_size» height «full_rounds» «partial_rounds» (now (diagonal .entry)) (now (constants .entry))) (λ s. compressReply p s (now (state .entry)) (now (node .entry)))))
         × (now (node .exit) ≡ leaving (holding width «node_size» height «full_rounds» «partial_rounds» (now (diagonal .entry)) (now (constants .entry))) (λ s. compressed p s (now (state .entry)) (now (node .entry))) (now (node .entry))) ⌝ }
 {
-    let v = parameters::hold(
-        width,
-        node_size,
-        height,
-        full_rounds,
-        partial_rounds,
-        diagonal,
-        constants,
-    );
-    let number = v.number;
-    if number != 0 {
-        return number;
+    let numbers = [width, node_size, height, full_rounds, partial_rounds];
+    let held = parameters::hold(numbers, diagonal, constants);
+    if held.number != 0 {
+        return held.number;
     }
-    let set = v.parameters;
+    let set = held.set;
     replies::of_outcome(opening_tree::compress(set, state, node))
 }

@@ -7,6 +7,7 @@ use lib.ListN.{length, take, replicate}
 use Rattle.refusals.specs.Table.{Refusal, firstRefusal}
 use Rattle.parameters.specs.Refusals.{constantCount, numberRefusals, shapeRefusals, listRefusals, validationRefusals}
 use Rattle.parameters.specs.declared.ParameterSet.{ParameterSet}
+use Rattle.parameters.specs.declared.Held.{Held}
 use Rattle.parameters.specs.declared.Validation.{Validation}
 
 -- A list in n places, "zero beyond its own count".
@@ -25,32 +26,29 @@ held t l h rf rp D C = record {
   constants = padded 208 C;
 }
 
--- A refusal: the row's number, and zeros for the set.
-unfoldable pub refusedValidation : ℕ → Validation
-refusedValidation number = record {
-  number = number;
-  parameters = record {
-    width = 0;
-    «node_size» = 0;
-    height = 0;
-    «full_rounds» = 0;
-    «partial_rounds» = 0;
-    diagonal = replicate 12 0;
-    constants = replicate 208 0;
-  };
+-- Zeros in the place of a set (Rules 2.6).
+unfoldable pub noSet : ParameterSet
+noSet = record {
+  width = 0;
+  «node_size» = 0;
+  height = 0;
+  «full_rounds» = 0;
+  «partial_rounds» = 0;
+  diagonal = replicate 12 0;
+  constants = replicate 208 0;
 }
 
--- A set that is held, not judged: a row from 1 to 6, or 0 and the set.
-unfoldable pub holding : ℕ → ℕ → ℕ → ℕ → ℕ → List ℕ → List ℕ → Validation
+-- A set that is held and not validated (Rules 2.8): 0 and the set, or the number of a refusal from 1 to 6 and zeros.
+unfoldable pub holding : ℕ → ℕ → ℕ → ℕ → ℕ → List ℕ → List ℕ → Held
 holding t l h rf rp D C =
     let number = firstRefusal (shapeRefusals t l h rf rp D C) in
-    cond (eqb number 0) (record { number = 0; parameters = held t l h rf rp D C }) (refusedValidation number)
+    record { number = number; set = cond (eqb number 0) (held t l h rf rp D C) noSet }
 
--- What validation answers: the first row that applies, or 0 and the set.
+-- What validation answers (Rules 2.4, 2.5): 0 and the set, or the number of the first refusal that applies and zeros.
 unfoldable pub validation : ℕ → ℕ → ℕ → ℕ → ℕ → ℕ → List ℕ → List ℕ → Validation
 validation p t l h rf rp D C =
     let number = firstRefusal (validationRefusals p t l h rf rp D C) in
-    cond (eqb number 0) (record { number = 0; parameters = held t l h rf rp D C }) (refusedValidation number)
+    record { number = number; parameters = cond (eqb number 0) (held t l h rf rp D C) noSet }
 
 -- "Every other entry judges the numbers and used words of the set it is handed by the same refusals; places beyond the used ones aren't read."
 unfoldable pub heldRefusals : ℕ → ℕ → ℕ → ℕ → ℕ → ℕ → List ℕ → List ℕ → List Refusal

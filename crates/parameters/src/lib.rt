@@ -2,11 +2,11 @@
 ghost use mathlib.Core.Path.{_≡_};
 ghost use mathlib.Core.Bool.{true, false};
 ghost use Prim.Native.Nat.{_≤_};
-ghost use lib.ListN.{length, take};
+ghost use lib.ListN.{length, take, getD};
 ghost use Rattle.modular.specs.Arithmetic.{allWords};
 ghost use Rattle.modular.specs.Goldilocks.{p};
 ghost use Rattle.refusals.specs.Table.{firstRefusal};
-ghost use Rattle.parameters.specs.ParameterSet.{padded, held, refusedValidation, holding, validation, heldRefusals};
+ghost use Rattle.parameters.specs.ParameterSet.{padded, held, noSet, holding, validation, heldRefusals};
 ghost use Rattle.parameters.specs.Refusals.{badWidth, badNodeSize, badFullRounds, badPartialRounds, badHeight, badLengths, hasZero, badDiagonal, numberRefusals, shapeRefusals, listRefusals, validationRefusals};
 
 use field::P;
@@ -21,7 +21,13 @@ pub struct ParameterSet {
     pub constants: [u64; 208],
 }
 
-// The number of the row that turns a set down, or 0 and the set. (An enum cannot hold the set's arrays.)
+// A set that is held and not validated, or the number of the refusal of its shape and zeros.
+pub struct Held {
+    pub number: u8,
+    pub set: ParameterSet,
+}
+
+// 0 and the set, or the number of its first refusal and zeros. (An enum cannot hold the set's arrays.)
 pub struct Validation {
     pub number: u8,
     pub parameters: ParameterSet,
@@ -292,62 +298,29 @@ fn hold_constants(list: &[u64]) -> [u64; 208]
     places
 }
 
-fn refused(number: u8) -> Validation
-    ensures { λ r. ⌜ r ≡ refusedValidation number ⌝ }
+fn no_set() -> ParameterSet
+    ensures { λ r. ⌜ r ≡ noSet ⌝ }
 {
-    Validation {
-        number: number,
-        parameters: ParameterSet {
-            width: 0,
-            node_size: 0,
-            height: 0,
-            full_rounds: 0,
-            partial_rounds: 0,
-            diagonal: [0; 12],
-            constants: [0; 208],
-        },
+    ParameterSet {
+        width: 0,
+        node_size: 0,
+        height: 0,
+        full_rounds: 0,
+        partial_rounds: 0,
+        diagonal: [0; 12],
+        constants: [0; 208],
     }
 }
 
-// The set of these numbers and lists, where its places hold them.
-fn set_of(
-    width: u64,
-    node_size: u64,
-    height: u64,
-    full_rounds: u64,
-    partial_rounds: u64,
-    diagonal: &[u64],
-    constants: &[u64],
-) -> Validation
-    requires { ⌜ (length (now diagonal) ≤ 12) × (length (now constants) ≤ 208) ⌝ }
-    ensures { λ r. ⌜ r ≡ record { number = 0; parameters = held width «node_size» height «full_rounds» «partial_rounds» (now (diagonal .entry)) (now (constants .entry)) } ⌝ }
+// The set of the five numbers and two lists, for an entry to validate, or the number of the first refusal of its shape, from 1 to 6.
+pub fn hold(numbers: [u64; 5], diagonal: &[u64], constants: &[u64]) -> Held
+    ensures { λ r. ⌜ r ≡ holding (getD numbers 0 0) (getD numbers 1 0) (getD numbers 2 0) (getD numbers 3 0) (getD numbers 4 0) (now (diagonal .entry)) (now (constants .entry)) ⌝ }
 {
-    Validation {
-        number: 0,
-        parameters: ParameterSet {
-            width: width,
-            node_size: node_size,
-            height: height,
-            full_rounds: full_rounds,
-            partial_rounds: partial_rounds,
-            diagonal: hold_diagonal(diagonal),
-            constants: hold_constants(constants),
-        },
-    }
-}
-
-// The row from 1 to 6 that turns these numbers and lists down, or the set that holds them, for an entry to judge.
-pub fn hold(
-    width: u64,
-    node_size: u64,
-    height: u64,
-    full_rounds: u64,
-    partial_rounds: u64,
-    diagonal: &[u64],
-    constants: &[u64],
-) -> Validation
-    ensures { λ r. ⌜ r ≡ holding width «node_size» height «full_rounds» «partial_rounds» (now (diagonal .entry)) (now (constants .entry)) ⌝ }
-{
+    let width = numbers[0];
+    let node_size = numbers[1];
+    let height = numbers[2];
+    let full_rounds = numbers[3];
+    let partial_rounds = numbers[4];
     let number = refusal_of_shape(
         width,
         node_size,
@@ -358,20 +331,27 @@ pub fn hold(
         constants,
     );
     if number != 0 {
-        return refused(number);
+        return Held {
+            number: number,
+            set: no_set(),
+        };
     }
-    set_of(
-        width,
-        node_size,
-        height,
-        full_rounds,
-        partial_rounds,
-        diagonal,
-        constants,
-    )
+    let set = ParameterSet {
+        width: width,
+        node_size: node_size,
+        height: height,
+        full_rounds: full_rounds,
+        partial_rounds: partial_rounds,
+        diagonal: hold_diagonal(diagonal),
+        constants: hold_constants(constants),
+    };
+    Held {
+        number: 0,
+        set: set,
+    }
 }
 
-// The row that turns these numbers and lists down, or the set that holds them.
+// The set of these numbers and lists, or the number of its first refusal.
 pub fn validate(
     width: u64,
     node_size: u64,
@@ -383,23 +363,26 @@ pub fn validate(
 ) -> Validation
     ensures { λ r. ⌜ r ≡ validation p width «node_size» height «full_rounds» «partial_rounds» (now (diagonal .entry)) (now (constants .entry)) ⌝ }
 {
-    let held = hold(
-        width,
-        node_size,
-        height,
-        full_rounds,
-        partial_rounds,
-        diagonal,
-        constants,
-    );
+    let numbers = [width, node_size, height, full_rounds, partial_rounds];
+    let held = hold(numbers, diagonal, constants);
+    let set = held.set;
     if held.number != 0 {
-        return held;
+        return Validation {
+            number: held.number,
+            parameters: set,
+        };
     }
     let number = refusal_of_lists(diagonal, constants);
     if number != 0 {
-        return refused(number);
+        return Validation {
+            number: number,
+            parameters: no_set(),
+        };
     }
-    held
+    Validation {
+        number: 0,
+        parameters: set,
+    }
 }
 
 // The first numbers of a list.

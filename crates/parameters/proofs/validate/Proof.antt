@@ -1,4 +1,4 @@
-use mathlib.Core.Path.{sym, _∙_}
+use mathlib.Core.Path.{_≡_, sym, _∙_}
 use borrow.Author.Needs.{needs}
 use Rattle.modular.specs.Goldilocks.{p}
 use Rattle.parameters.proofs.Answers.{shape-refused, lists-refused, accepted}
@@ -6,19 +6,19 @@ use Rattle.parameters.proofs.validate.Statement.{statement}
 use Rattle.parameters.proofs.validate.Tie as tie
 
 returns : tie.Need-returns
-returns c = shape-refused p _ _ _ _ _ _ _ _ (c .before .before .hold .ensures) (c .if1 .taken)
+returns c = shape-refused p _ _ _ _ _ _ _ _ (c .before .before .before .hold .ensures) (c .if1 .taken)
 
 returns-2 : tie.Need-returns-2
 returns-2 c =
-    let r = c .before .before in
-    let h = r .before .before .before .hold in
-    c .refused .ensures ∙ lists-refused p _ _ _ _ _ _ _ _ (h .ensures) (r .before .if1 .left) _ (r .refusal-of-lists .ensures) (c .before .if2 .taken)
+    let l = c .before .before in
+    let e = l .before in
+    lists-refused p _ _ _ _ _ _ _ _ (e .before .before .before .hold .ensures) (e .if1 .left) _ _ (l .refusal-of-lists .ensures) (c .before .if2 .taken) (c .no-set .ensures)
 
 returns-3 : tie.Need-returns-3
 returns-3 c =
-    let r = c .before in
-    let h = r .before .before .before .hold in
-    accepted p _ _ _ _ _ _ _ _ (h .ensures) (r .before .if1 .left) (sym (r .refusal-of-lists .ensures) ∙ c .if2 .left)
+    let l = c .before in
+    let e = l .before in
+    accepted p _ _ _ _ _ _ _ _ (e .before .before .before .hold .ensures) (e .if1 .left) (sym (l .refusal-of-lists .ensures) ∙ c .if2 .left)
 
 pub validate-spec : {M : Type 1} → statement M
 validate-spec = tie.close (tie.spec (search needs) returns (search needs) (search needs) returns-2 returns-3)

@@ -1,20 +1,12 @@
-use mathlib.Core.Path.{ap, _∙_}
 use borrow.Author.Needs.{needs}
-use Rattle.replies.specs.Replies.{numberOf}
-use Rattle.opening_tree_c.proofs.Calls.{same-value}
+use Rattle.opening_tree_c.proofs.Calls.{number-of, value-of}
 use Rattle.opening_tree_c.proofs.arithmetic.opening_tree_seventh_root.Statement.{statement}
 use Rattle.opening_tree_c.proofs.arithmetic.opening_tree_seventh_root.Tie as tie
 
-seventh-root-requires : tie.Need-seventh-root-requires
-seventh-root-requires c κs = search needs
-
-of-answer-requires : tie.Need-of-answer-requires
-of-answer-requires c κs = search needs
-
 returns : tie.Need-returns
 returns c =
-    let e = c .before .before .seventh-root .ensures in
-    (c .of-answer .ensures .0 ∙ ap numberOf e, c .of-answer .ensures .1 ∙ same-value e _)
+    let said = c .before .before .seventh-root .ensures in
+    (number-of (c .of-answer .ensures .0) said, value-of 0 _ (c .of-answer .ensures .1) said)
 
 pub opening-tree-seventh-root-spec : {M : Type 1} → statement M
-opening-tree-seventh-root-spec = tie.close (tie.spec seventh-root-requires of-answer-requires returns)
+opening-tree-seventh-root-spec = tie.close (tie.spec (search needs) (search needs) returns)

@@ -1,38 +1,19 @@
-use mathlib.Core.Path.{ap, _∙_}
 use borrow.Author.Needs.{needs}
-use Rattle.replies.specs.Replies.{numberOf}
-use Rattle.opening_tree_c.proofs.Calls.{turned-number, turned-buffer, passed, passed-buffer}
+use Rattle.opening_tree_c.proofs.Calls.{refused-number, refused-buffer, entry-number, entry-buffer}
 use Rattle.opening_tree_c.proofs.states.opening_tree_unpermute.Statement.{statement}
 use Rattle.opening_tree_c.proofs.states.opening_tree_unpermute.Tie as tie
 
-hold-requires : tie.Need-hold-requires
-hold-requires c κs = search needs
-
 returns : tie.Need-returns
 returns c =
-    let e = c .before .hold .ensures in
-    let o = c .if1 .taken in
-    (turned-number _ _ e o _, turned-buffer _ _ e o _ _)
-
-unpermute-requires : tie.Need-unpermute-requires
-unpermute-requires c κs = search needs
-
-of-outcome-requires : tie.Need-of-outcome-requires
-of-outcome-requires c κs = search needs
-
-same-length : tie.Need-same-length
-same-length c = search needs
+    let e = c .before .before .hold .ensures in
+    (refused-number e (c .if1 .taken) _, refused-buffer e (c .if1 .taken) _ _)
 
 returns-2 : tie.Need-returns-2
 returns-2 c =
     let w = c .before .before .before in
     let h = w .before .before .before in
-    let e = h .before .hold .ensures in
-    let z = h .if1 .left in
-    let said = w .unpermute .ensures .0 ∙ passed _ _ e z _ in
-    (c .of-outcome .ensures ∙ ap numberOf said, w .unpermute .ensures .1 ∙ passed-buffer _ _ e z _ _)
+    let e = h .before .before .hold .ensures in
+    (entry-number e (h .if1 .left) _ (c .of-outcome .ensures) (w .unpermute .ensures .0), entry-buffer e (h .if1 .left) _ _ (w .unpermute .ensures .1))
 
 pub opening-tree-unpermute-spec : {M : Type 1} → statement M
-opening-tree-unpermute-spec =
-    tie.close
-    (tie.spec hold-requires returns unpermute-requires of-outcome-requires same-length returns-2)
+opening-tree-unpermute-spec = tie.close (tie.spec (search needs) returns (search needs) (search needs) (search needs) returns-2)
