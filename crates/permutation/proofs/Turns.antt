@@ -5,8 +5,8 @@ use Prim.Native.Nat.{ℕ, zero, suc, _+_, _*_, _-_, _%_, _<_, _≤_}
 use native.Mathlib.Nat.{add-zero, mul-add, mul-one, mul-zero, mod-mod}
 use native.Mathlib.Numerals.{add-one}
 use native.Mathlib.Omega.{arith}
-use lib.ListN.{length, getD, take, drop, length-drop}
-use lib.Seq.{getD-take, getD-drop, take-add, drop-drop}
+use lib.ListN.{length, getD, take, drop}
+use lib.Seq.{getD-take, getD-drop, take-add, drop-drop, drop-cons}
 use Rattle.modular.specs.Arithmetic.{add, pow}
 use Rattle.modular.specs.Congruence.{_≈⟨_⟩_}
 use Rattle.modular.proofs.Congruence.{refl≈, mod≈, add≈}
@@ -32,28 +32,37 @@ module _ (p : ℕ) where
       sym (external-residues p rs) ∙ ap (external p) (e ∙ ap (seventhPowers p) (sym (addLists-take p es (drop k C)) ∙ ap (λ (n : ℕ). addLists p es (take n (drop k C))) l))
       ∙ sym (fullRound-residues p (take t (drop k C)) es)
 
-  -- after i of n rounds, those left give the same as all
-  pub full-turn : (t k n i : ℕ) (C ss es rs whole : List ℕ) → i < n → length es ≡ t
-      → residues p es ≡ external p ss → residues p rs ≡ seventhPowers p (addConstants p (drop (k + t * i) C) es)
-      → fullRounds p t (n - i) (drop (k + t * i) C) (external p ss) ≡ whole
-      → fullRounds p t (n - (i + 1)) (drop (k + t * (i + 1)) C) (external p rs) ≡ whole
-  full-turn t k n i C ss es rs whole h l e f g =
-      let a : k + t * (i + 1) ≡ k + t * i + t = omega (arith, mul-add t i 1, mul-one t) in
-      let b : n - i ≡ suc (n - (i + 1)) = omega arith in
-      ap₂ (λ (m : ℕ) (xs : List ℕ). fullRounds p t (n - (i + 1)) (drop m C) xs) a (round-law t (k + t * i) C es rs l f)
-      ∙ sym (fullRounds-at p t (n - (i + 1)) C (k + t * i) (residues p es))
-      ∙ ap₂ (λ (m : ℕ) (xs : List ℕ). fullRounds p t m (drop (k + t * i) C) xs) (sym b) e
-      ∙ g
+  -- after i of n rounds the numbers are ss, from which those left lead to where all lead from xs
+  pub record Turning (t k n : ℕ) (C xs : List ℕ) (i : ℕ) (ss : List ℕ) : Type 0 where
+    pub within : i ≤ n
+    pub left : fullRounds p t (n - i) (drop (k + t * i) C) (external p ss) ≡ fullRounds p t n (drop k C) (external p xs)
 
-  pub no-round : (t k n i : ℕ) (C xs : List ℕ) → n ≤ i → fullRounds p t (n - i) (drop (k + t * i) C) xs ≡ xs
-  unfolding fullRounds
-  no-round t k n i C xs h = let e : n - i ≡ 0 = omega arith in ap (λ (m : ℕ). fullRounds p t m (drop (k + t * i) C) xs) e
-
-  pub all-rounds : (t k n : ℕ) (C xs : List ℕ) → fullRounds p t (n - 0) (drop (k + t * 0) C) xs ≡ fullRounds p t n (drop k C) xs
-  all-rounds t k n C xs =
+  pub full-none : (t k n : ℕ) (C xs : List ℕ) → Turning t k n C xs 0 xs
+  full-none t k n C xs =
       let a : n - 0 ≡ n = omega arith in
       let b : k + t * 0 ≡ k = ap (λ (m : ℕ). k + m) (mul-zero t) ∙ add-zero k in
-      ap₂ (λ (m j : ℕ). fullRounds p t m (drop j C) xs) a b
+      record { within = omega arith; left = ap₂ (λ (m j : ℕ). fullRounds p t m (drop j C) (external p xs)) a b }
+
+  module _ {t k n : ℕ} {C xs : List ℕ} {i : ℕ} {ss : List ℕ} (T : Turning t k n C xs i ss) (es : List ℕ) where
+    pub full-turn : {rs : List ℕ} → i < n → length es ≡ t → residues p es ≡ external p ss
+        → residues p rs ≡ seventhPowers p (addConstants p (drop (k + t * i) C) es) → Turning t k n C xs (i + 1) rs
+    full-turn {rs} h l e f =
+        let a : k + t * (i + 1) ≡ k + t * i + t = omega (arith, mul-add t i 1, mul-one t) in
+        let b : n - i ≡ suc (n - (i + 1)) = omega arith in
+        record {
+          within = omega arith;
+          left =
+              ap₂ (λ (m : ℕ) (ys : List ℕ). fullRounds p t (n - (i + 1)) (drop m C) ys) a (round-law t (k + t * i) C es rs l f)
+              ∙ sym (fullRounds-at p t (n - (i + 1)) C (k + t * i) (residues p es))
+              ∙ ap₂ (λ (m : ℕ) (ys : List ℕ). fullRounds p t m (drop (k + t * i) C) ys) (sym b) e
+              ∙ T .left;
+        }
+
+    pub full-end : n ≤ i → residues p es ≡ external p ss → residues p es ≡ fullRounds p t n (drop k C) (external p xs)
+    unfolding fullRounds
+    full-end h e =
+        let z : n - i ≡ 0 = omega arith in
+        e ∙ sym (ap (λ (m : ℕ). fullRounds p t m (drop (k + t * i) C) (external p ss)) z) ∙ T .left
 
   -- ---- partial rounds
 
@@ -104,26 +113,6 @@ module _ (p : ℕ) where
       beyond (suc m) (x ∷ xs) zero h = absurd (omega arith)
       beyond (suc m) (x ∷ xs) (suc j) h = beyond m xs j (omega arith)
 
-  -- the numbers ss stand for the words after i rounds, with round i's constant added
-  abbrev pub Ready : List ℕ → List ℕ → ℕ → ℕ → ℕ → List ℕ → List ℕ → Type 0
-  Ready D C k n i xs ss = residues p ss ≡ addConstants p (getD (take (k + n) C) (k + i) 0 ∷ []) (partialRounds p D i (drop k C) xs)
-
-  pub partial-turn : (D C : List ℕ) (k n i c : ℕ) (xs ss rs : List ℕ) → i < n → Ready D C k n i xs ss
-      → c ≡ getD (take (k + n) C) (k + (i + 1)) 0 → residues p rs ≡ addConstants p (c ∷ []) (partialRound p D 0 ss)
-      → Ready D C k n (i + 1) xs rs
-  partial-turn D C k n i c xs ss rs h s e f =
-      f ∙ ap₂ (λ (d : ℕ) (ys : List ℕ). addConstants p (d ∷ []) ys) e
-      (sym (partialRound-residues p D 0 ss) ∙ ap (partialRound p D 0) s ∙ own-constant D (getD (take (k + n) C) (k + i) 0) (partialRounds p D i (drop k C) xs)
-      ∙ ap (λ (d : ℕ). partialRound p D d (partialRounds p D i (drop k C) xs)) (constant-in C k n i h)
-      ∙ sym (last-round D (drop k C) i xs) ∙ ap (λ (m : ℕ). partialRounds p D m (drop k C) xs) (sym (add-one i)))
-
-  -- before the first round
-  pub partial-start : (D C : List ℕ) (k n s : ℕ) (x : ℕ) (xs : List ℕ) → s ≈⟨ p ⟩ x + getD (take (k + n) C) (k + 0) 0
-      → Ready D C k n 0 (residues p (x ∷ xs)) (s ∷ xs)
-  unfolding partialRounds addConstants addLists residues add
-  partial-start D C k n s x xs h =
-      cons-eq (h .same ∙ sym (add≈ (mod≈ x) (refl≈ {a = getD (take (k + n) C) (k + 0) 0}) .same)) (sym (residues-twice p xs) ∙ sym (add-none (residues p xs)))
-
   no-constant : (ys : List ℕ) → residues p ys ≡ ys → addConstants p (0 ∷ []) ys ≡ ys
   unfolding addConstants addLists add residues
   no-constant [] h = refl
@@ -141,15 +130,48 @@ module _ (p : ℕ) where
       let ys = raiseFirst p (getD cs 0 0) xs in
       rounds-words D (drop 1 cs) n (partialRound p D (getD cs 0 0) xs) (multiples-words (sum ys) D ys)
 
-  -- after the last
-  pub partial-end : (D C : List ℕ) (k n i : ℕ) (xs ss : List ℕ) → i ≡ n → Ready D C k n i (residues p xs) ss
-      → residues p ss ≡ partialRounds p D n (drop k C) (residues p xs)
-  partial-end D C k n i xs ss e s =
-      let ys = partialRounds p D i (drop k C) (residues p xs) in
-      let l : n ≤ i = omega (arith, e) in
-      s ∙ ap (λ (c : ℕ). addConstants p (c ∷ []) ys) (constant-out C k n i l)
-      ∙ no-constant ys (rounds-words D (drop k C) i (residues p xs) (residues-twice p xs))
-      ∙ ap (λ (m : ℕ). partialRounds p D m (drop k C) (residues p xs)) e
+  -- the numbers ss stand for the words after i of n rounds, with round i's constant added
+  abbrev Ready : List ℕ → List ℕ → ℕ → ℕ → ℕ → List ℕ → List ℕ → Type 0
+  Ready D C k n i xs ss = residues p ss ≡ addConstants p (getD (take (k + n) C) (k + i) 0 ∷ []) (partialRounds p D i (drop k C) xs)
+
+  -- they do if the numbers from did before the first round
+  pub record Going (D C : List ℕ) (k n : ℕ) (from : List ℕ) (i : ℕ) (ss : List ℕ) : Type 0 where
+    pub within : i ≤ n
+    pub ready : (xs : List ℕ) → Ready D C k n 0 xs from → Ready D C k n i xs ss
+
+  pub partial-none : (D C : List ℕ) (k n : ℕ) (ss : List ℕ) → Going D C k n ss 0 ss
+  partial-none D C k n ss = record { within = omega arith; ready = λ xs r. r }
+
+  module _ {D C : List ℕ} {k n : ℕ} {from : List ℕ} {i : ℕ} {ss : List ℕ} (G : Going D C k n from i ss) where
+    pub partial-turn : {c : ℕ} {rs : List ℕ} → i < n → c ≡ getD (take (k + n) C) (k + (i + 1)) 0
+        → residues p rs ≡ addConstants p (c ∷ []) (partialRound p D 0 ss) → Going D C k n from (i + 1) rs
+    partial-turn h e f = record {
+      within = omega arith;
+      ready =
+          λ xs r.
+          f ∙ ap₂ (λ (d : ℕ) (ys : List ℕ). addConstants p (d ∷ []) ys) e
+          (sym (partialRound-residues p D 0 ss) ∙ ap (partialRound p D 0) (G .ready xs r)
+          ∙ own-constant D (getD (take (k + n) C) (k + i) 0) (partialRounds p D i (drop k C) xs)
+          ∙ ap (λ (d : ℕ). partialRound p D d (partialRounds p D i (drop k C) xs)) (constant-in C k n i h)
+          ∙ sym (last-round D (drop k C) i xs) ∙ ap (λ (m : ℕ). partialRounds p D m (drop k C) xs) (sym (add-one i)));
+    }
+
+  first-constant : (s x c : ℕ) (xs : List ℕ) → s ≈⟨ p ⟩ x + c → residues p (s ∷ xs) ≡ addConstants p (c ∷ []) (residues p (x ∷ xs))
+  unfolding addConstants addLists residues add
+  first-constant s x c xs w =
+      cons-eq (w .same ∙ sym (add≈ (mod≈ x) (refl≈ {a = c}) .same)) (sym (residues-twice p xs) ∙ sym (add-none (residues p xs)))
+
+  -- word 0 came with the first constant, and after the last round none is added
+  pub partial-end : {D C : List ℕ} {k n s : ℕ} {xs : List ℕ} {i : ℕ} {ss : List ℕ} → Going D C k n (s ∷ xs) i ss → (x : ℕ) {c : ℕ} → n ≤ i
+      → s ≈⟨ p ⟩ x + c → c ≡ getD (take (k + n) C) (k + 0) 0 → residues p ss ≡ partialRounds p D n (drop k C) (residues p (x ∷ xs))
+  unfolding partialRounds
+  partial-end {D} {C} {k} {n} {s} {xs} {i} {ss} G x {c} h w e =
+      let ys = partialRounds p D i (drop k C) (residues p (x ∷ xs)) in
+      let l : i ≡ n = omega (arith, G .within) in
+      G .ready (residues p (x ∷ xs)) (rw e at (first-constant s x c xs w))
+      ∙ ap (λ (d : ℕ). addConstants p (d ∷ []) ys) (constant-out C k n i h)
+      ∙ no-constant ys (rounds-words D (drop k C) i (residues p (x ∷ xs)) (residues-twice p (x ∷ xs)))
+      ∙ ap (λ (m : ℕ). partialRounds p D m (drop k C) (residues p (x ∷ xs))) l
 
   -- ---- the permutation
 
@@ -172,14 +194,11 @@ module _ (p : ℕ) where
 
 pub four-from : (xs : List ℕ) (k : ℕ) → k + 4 ≤ length xs
     → getD xs k 0 ∷ getD xs (k + 1) 0 ∷ getD xs (k + 2) 0 ∷ getD xs (k + 3) 0 ∷ [] ≡ take 4 (drop k xs)
-four-from xs k h = go (drop k xs) (getD-drop k xs 0 0 ∙ ap (λ (m : ℕ). getD xs m 0) (add-zero k)) (getD-drop k xs 1 0) (getD-drop k xs 2 0) (getD-drop k xs 3 0) (omega (arith, length-drop k xs))
-  where
-    go : (ys : List ℕ) {a b c d : ℕ} → getD ys 0 0 ≡ a → getD ys 1 0 ≡ b → getD ys 2 0 ≡ c → getD ys 3 0 ≡ d → 4 ≤ length ys → a ∷ b ∷ c ∷ d ∷ [] ≡ take 4 ys
-    go [] e f g i l = absurd (omega arith)
-    go (u ∷ []) e f g i l = absurd (omega arith)
-    go (u ∷ v ∷ []) e f g i l = absurd (omega arith)
-    go (u ∷ v ∷ w ∷ []) e f g i l = absurd (omega arith)
-    go (u ∷ v ∷ w ∷ x ∷ ys) e f g i l = cons-eq (sym e) (cons-eq (sym f) (cons-eq (sym g) (cons-eq (sym i) refl)))
+four-from xs k h =
+    let one : k + 1 ≡ suc k = omega arith in
+    let two : k + 2 ≡ suc (suc k) = omega arith in
+    let three : k + 3 ≡ suc (suc (suc k)) = omega arith in
+    rw (one, two, three, drop-cons xs k 0 (omega arith), drop-cons xs (suc k) 0 (omega arith), drop-cons xs (suc (suc k)) 0 (omega arith), drop-cons xs (suc (suc (suc k))) 0 (omega arith))
 
 -- four and n more
 pub more-from : (n k : ℕ) (xs : List ℕ) → take 4 (drop k xs) ++ take n (drop (k + 4) xs) ≡ take (4 + n) (drop k xs)

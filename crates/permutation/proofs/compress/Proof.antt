@@ -8,16 +8,10 @@ use borrow.Author.Needs.{needs}
 use Rattle.permutation.proofs.compress.Statement.{statement}
 use Rattle.permutation.proofs.compress.Tie as tie
 
-compressed-requires : tie.Need-compressed-requires
-compressed-requires c κs = search needs
-
 write-requires : tie.Need-write-requires
 write-requires c κs =
     let i = c .before .before .before .before in
     (width-small (i .args .node-size) (i .pre .0) (i .pre .1), whole-fits (i .args .node .now) (i .args .node-size) (i .pre .7))
-
-same-length : tie.Need-same-length
-same-length c = search needs
 
 returns : tie.Need-returns
 returns c =
@@ -31,4 +25,4 @@ returns c =
     ∙ ap (compress p (a .node-size) (a .half) (a .partial-rounds) (a .diagonal .now) (a .constants .now)) (all-of (a .width) (a .row .now) (i .pre .6))
 
 pub compress-spec : {M : Type 1} → statement M
-compress-spec = tie.close (tie.spec compressed-requires write-requires same-length returns)
+compress-spec = tie.close (tie.spec (λ c κs. search needs) write-requires (search needs) returns)

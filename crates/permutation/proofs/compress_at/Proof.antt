@@ -7,16 +7,10 @@ use borrow.Author.Needs.{needs}
 use Rattle.permutation.proofs.compress_at.Statement.{statement}
 use Rattle.permutation.proofs.compress_at.Tie as tie
 
-compressed-requires : tie.Need-compressed-requires
-compressed-requires c κs = search needs
-
 write-requires : tie.Need-write-requires
 write-requires c κs =
     let i = c .before .before .before .before in
     (width-small (i .args .node-size) (i .pre .0) (i .pre .1), i .pre .7)
-
-same-length : tie.Need-same-length
-same-length c = search needs
 
 returns : tie.Need-returns
 returns c =
@@ -31,4 +25,4 @@ returns c =
     (compress-code p (a .node-size) (a .width) (a .half) (a .partial-rounds) (a .diagonal .now) (a .constants .now) row s (i .pre .1) (r .compressed .ensures))
 
 pub compress-at-spec : {M : Type 1} → statement M
-compress-at-spec = tie.close (tie.spec compressed-requires write-requires same-length returns)
+compress-at-spec = tie.close (tie.spec (λ c κs. search needs) write-requires (search needs) returns)

@@ -17,9 +17,6 @@ permute4-requires c κs =
     let e : a .width ≡ 4 = c .if1 .taken in
     (i .pre .1, i .pre .2, i .pre .3, words-at (2 * a .half) (a .partial-rounds) (a .constants .now) e (i .pre .4), omega (arith, e))
 
-add-input-requires : tie.Need-add-input-requires
-add-input-requires c κs = search needs
-
 returns : tie.Need-returns
 returns c =
     let r = c .before in
@@ -35,21 +32,6 @@ permute8-requires c κs =
     let a = i .args in
     let e : a .width ≡ 8 = c .if2 .taken in
     (i .pre .1, i .pre .2, i .pre .3, words-at (2 * a .half) (a .partial-rounds) (a .constants .now) e (i .pre .4), omega (arith, e))
-
-array-copy-out-add-input : tie.Need-array-copy-out-add-input
-array-copy-out-add-input c = search needs
-
-add-input-requires-2 : tie.Need-add-input-requires-2
-add-input-requires-2 c κs = search needs
-
-array-copy-out-add-input-2 : tie.Need-array-copy-out-add-input-2
-array-copy-out-add-input-2 c = search needs
-
-add-add-input : tie.Need-add-add-input
-add-add-input c = search needs
-
-add-input-requires-3 : tie.Need-add-input-requires-3
-add-input-requires-3 c κs = search needs
 
 returns-2 : tie.Need-returns-2
 returns-2 c =
@@ -70,9 +52,6 @@ permute12-requires c κs =
     let e : a .width ≡ 12 = twelve (i .pre .0) (c .before .if1 .left) (c .if2 .left) in
     (i .pre .1, i .pre .2, i .pre .3, words-at (2 * a .half) (a .partial-rounds) (a .constants .now) e (i .pre .4), omega (arith, e))
 
-array-copy-out-add-input-3 : tie.Need-array-copy-out-add-input-3
-array-copy-out-add-input-3 c = search needs
-
 add-input-requires-4 : tie.Need-add-input-requires-4
 add-input-requires-4 c κs =
     let t = c .before .before in
@@ -80,24 +59,12 @@ add-input-requires-4 c κs =
     let e : i .args .width ≡ 12 = twelve (i .pre .0) (t .before .if1 .left) (t .if2 .left) in
     omega (arith, e)
 
-array-copy-out-add-input-4 : tie.Need-array-copy-out-add-input-4
-array-copy-out-add-input-4 c = search needs
-
-add-add-input-2 : tie.Need-add-add-input-2
-add-add-input-2 c = search needs
-
 add-input-requires-5 : tie.Need-add-input-requires-5
 add-input-requires-5 c κs =
     let t = c .before .before .before .before in
     let i = t .before .before .before in
     let e : i .args .width ≡ 12 = twelve (i .pre .0) (t .before .if1 .left) (t .if2 .left) in
     omega (arith, e)
-
-array-copy-out-add-input-5 : tie.Need-array-copy-out-add-input-5
-array-copy-out-add-input-5 c = search needs
-
-add-add-input-3 : tie.Need-add-add-input-3
-add-add-input-3 c = search needs
 
 add-input-requires-6 : tie.Need-add-input-requires-6
 add-input-requires-6 c κs =
@@ -123,23 +90,6 @@ pub compressed-spec : {M : Type 1} → statement M
 compressed-spec =
     tie.close
     (tie.spec
-    permute4-requires
-    add-input-requires
-    returns
-    permute8-requires
-    array-copy-out-add-input
-    add-input-requires-2
-    array-copy-out-add-input-2
-    add-add-input
-    add-input-requires-3
-    returns-2
-    permute12-requires
-    array-copy-out-add-input-3
-    add-input-requires-4
-    array-copy-out-add-input-4
-    add-add-input-2
-    add-input-requires-5
-    array-copy-out-add-input-5
-    add-add-input-3
-    add-input-requires-6
-    returns-3)
+    permute4-requires (search needs) returns permute8-requires (search needs) (search needs) (search needs) (search needs) (search needs)
+    returns-2 permute12-requires (search needs) add-input-requires-4 (search needs) (search needs) add-input-requires-5 (search needs)
+    (search needs) add-input-requires-6 returns-3)

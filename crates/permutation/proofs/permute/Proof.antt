@@ -8,16 +8,10 @@ use borrow.Author.Needs.{needs}
 use Rattle.permutation.proofs.permute.Statement.{statement}
 use Rattle.permutation.proofs.permute.Tie as tie
 
-permuted-requires : tie.Need-permuted-requires
-permuted-requires c κs = search needs
-
 write-requires : tie.Need-write-requires
 write-requires c κs =
     let i = c .before .before .before .before in
     (width-small (i .args .width) (i .pre .0) (omega arith), whole-fits (i .args .state .now) (i .args .width) (i .pre .5))
-
-same-length : tie.Need-same-length
-same-length c = search needs
 
 returns : tie.Need-returns
 returns c =
@@ -29,4 +23,4 @@ returns c =
     ∙ ap (permute p (a .half) (a .partial-rounds) (a .diagonal .now) (a .constants .now)) (all-of (a .width) (a .state .now) (i .pre .5))
 
 pub permute-spec : {M : Type 1} → statement M
-permute-spec = tie.close (tie.spec permuted-requires write-requires same-length returns)
+permute-spec = tie.close (tie.spec (λ c κs. search needs) write-requires (search needs) returns)

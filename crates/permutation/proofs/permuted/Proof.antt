@@ -15,9 +15,6 @@ permute4-requires c κs =
     let e : a .width ≡ 4 = c .if1 .taken in
     (i .pre .1, i .pre .2, i .pre .3, words-at (2 * a .half) (a .partial-rounds) (a .constants .now) e (i .pre .4), omega (arith, e))
 
-words-requires : tie.Need-words-requires
-words-requires c κs = search needs
-
 returns : tie.Need-returns
 unfolding residues
 returns c =
@@ -33,18 +30,6 @@ permute8-requires c κs =
     let a = i .args in
     let e : a .width ≡ 8 = c .if2 .taken in
     (i .pre .1, i .pre .2, i .pre .3, words-at (2 * a .half) (a .partial-rounds) (a .constants .now) e (i .pre .4), omega (arith, e))
-
-array-copy-out-words : tie.Need-array-copy-out-words
-array-copy-out-words c = search needs
-
-words-requires-2 : tie.Need-words-requires-2
-words-requires-2 c κs = search needs
-
-array-copy-out-words-2 : tie.Need-array-copy-out-words-2
-array-copy-out-words-2 c = search needs
-
-words-requires-3 : tie.Need-words-requires-3
-words-requires-3 c κs = search needs
 
 returns-2 : tie.Need-returns-2
 unfolding residues
@@ -63,24 +48,6 @@ permute12-requires c κs =
     let e : a .width ≡ 12 = twelve (i .pre .0) (c .before .if1 .left) (c .if2 .left) in
     (i .pre .1, i .pre .2, i .pre .3, words-at (2 * a .half) (a .partial-rounds) (a .constants .now) e (i .pre .4), omega (arith, e))
 
-array-copy-out-words-3 : tie.Need-array-copy-out-words-3
-array-copy-out-words-3 c = search needs
-
-words-requires-4 : tie.Need-words-requires-4
-words-requires-4 c κs = search needs
-
-array-copy-out-words-4 : tie.Need-array-copy-out-words-4
-array-copy-out-words-4 c = search needs
-
-words-requires-5 : tie.Need-words-requires-5
-words-requires-5 c κs = search needs
-
-array-copy-out-words-5 : tie.Need-array-copy-out-words-5
-array-copy-out-words-5 c = search needs
-
-words-requires-6 : tie.Need-words-requires-6
-words-requires-6 c κs = search needs
-
 returns-3 : tie.Need-returns-3
 unfolding residues
 returns-3 c =
@@ -96,20 +63,5 @@ pub permuted-spec : {M : Type 1} → statement M
 permuted-spec =
     tie.close
     (tie.spec
-    permute4-requires
-    words-requires
-    returns
-    permute8-requires
-    array-copy-out-words
-    words-requires-2
-    array-copy-out-words-2
-    words-requires-3
-    returns-2
-    permute12-requires
-    array-copy-out-words-3
-    words-requires-4
-    array-copy-out-words-4
-    words-requires-5
-    array-copy-out-words-5
-    words-requires-6
-    returns-3)
+    permute4-requires (search needs) returns permute8-requires (search needs) (search needs) (search needs) (search needs) returns-2
+    permute12-requires (search needs) (search needs) (search needs) (search needs) (search needs) (search needs) returns-3)

@@ -3,15 +3,6 @@ use borrow.Author.Needs.{needs}
 use Rattle.permutation.proofs.sum_word.Statement.{statement}
 use Rattle.permutation.proofs.sum_word.Tie as tie
 
-residue-requires : tie.Need-residue-requires
-residue-requires c κs = search needs
-
-sum-requires : tie.Need-sum-requires
-sum-requires c κs = search needs
-
-residue-requires-2 : tie.Need-residue-requires-2
-residue-requires-2 c κs = search needs
-
 returns : tie.Need-returns
 returns c =
     let s = c .before in
@@ -19,4 +10,4 @@ returns c =
     sum-of-words (r .before .args .x) (r .before .args .y) (r .residue .ensures) (s .sum .ensures) (c .residue2 .ensures)
 
 pub sum-word-spec : {M : Type 1} → statement M
-sum-word-spec = tie.close (tie.spec residue-requires sum-requires residue-requires-2 returns)
+sum-word-spec = tie.close (tie.spec (search needs) (search needs) (search needs) returns)

@@ -9,15 +9,6 @@ use borrow.Author.Needs.{needs}
 use Rattle.permutation.proofs.rounds.next_constant.Statement.{statement}
 use Rattle.permutation.proofs.rounds.next_constant.Tie as tie
 
-add-result : tie.Need-add-result
-add-result c = search needs
-
-mul-result : tie.Need-mul-result
-mul-result c = search needs
-
-element-copy-out-result : tie.Need-element-copy-out-result
-element-copy-out-result c = search needs
-
 returns : tie.Need-returns
 returns c =
     let i = c .before .before in
@@ -30,5 +21,4 @@ returns-2 c =
     (sym (constant-out p (a .constants .now) (a .at) (a .n) (a .i) (c .if1 .left)), lit< tt)
 
 pub next-constant-spec : {M : Type 1} → statement M
-next-constant-spec =
-    tie.close (tie.spec add-result mul-result element-copy-out-result returns returns-2)
+next-constant-spec = tie.close (tie.spec (search needs) (search needs) (search needs) returns returns-2)

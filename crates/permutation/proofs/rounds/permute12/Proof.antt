@@ -12,29 +12,11 @@ use borrow.Author.Needs.{needs}
 use Rattle.permutation.proofs.rounds.permute12.Statement.{statement}
 use Rattle.permutation.proofs.rounds.permute12.Tie as tie
 
-load-requires : tie.Need-load-requires
-load-requires c κs = search needs
-
-add-load : tie.Need-add-load
-add-load c = search needs
-
-load-requires-2 : tie.Need-load-requires-2
-load-requires-2 c κs = search needs
-
-add-load-2 : tie.Need-add-load-2
-add-load-2 c = search needs
-
-load-requires-3 : tie.Need-load-requires-3
-load-requires-3 c κs = search needs
-
 full-rounds12-requires : tie.Need-full-rounds12-requires
 full-rounds12-requires c κs =
     let i = c .before .before .before .before in
     let a = i .args in
     (omega arith, omega arith, fewer-words (lit< tt) (0 + 12 * a .half) (12 * (2 * a .half) + a .partial-rounds) (a .constants .now) (omega arith) (i .pre .3))
-
-mul-partial-rounds12 : tie.Need-mul-partial-rounds12
-mul-partial-rounds12 c = search needs
 
 partial-rounds12-requires : tie.Need-partial-rounds12-requires
 partial-rounds12-requires c κs =
@@ -42,23 +24,11 @@ partial-rounds12-requires c κs =
     let a = i .args in
     (omega arith, omega arith, fewer-words (lit< tt) (12 * a .half + a .partial-rounds) (12 * (2 * a .half) + a .partial-rounds) (a .constants .now) (omega arith) (i .pre .3))
 
-mul-at : tie.Need-mul-at
-mul-at c = search needs
-
-add-at : tie.Need-add-at
-add-at c = search needs
-
 raise12-requires : tie.Need-raise12-requires
 raise12-requires c κs =
     let i = c .before .before .before .before .before .before in
     let a = i .args in
     (omega arith, fewer-words (lit< tt) (12 * a .half + a .partial-rounds + 12) (12 * (2 * a .half) + a .partial-rounds) (a .constants .now) (omega arith) (i .pre .3))
-
-add-full-rounds12 : tie.Need-add-full-rounds12
-add-full-rounds12 c = search needs
-
-sub-full-rounds12 : tie.Need-sub-full-rounds12
-sub-full-rounds12 c = search needs
 
 full-rounds12-requires-2 : tie.Need-full-rounds12-requires-2
 full-rounds12-requires-2 c κs =
@@ -85,18 +55,6 @@ pub permute12-spec : {M : Type 1} → statement M
 permute12-spec =
     tie.close
     (tie.spec
-    load-requires
-    add-load
-    load-requires-2
-    add-load-2
-    load-requires-3
-    full-rounds12-requires
-    mul-partial-rounds12
-    partial-rounds12-requires
-    mul-at
-    add-at
-    raise12-requires
-    add-full-rounds12
-    sub-full-rounds12
-    full-rounds12-requires-2
+    (search needs) (search needs) (search needs) (search needs) (search needs) full-rounds12-requires (search needs)
+    partial-rounds12-requires (search needs) (search needs) raise12-requires (search needs) (search needs) full-rounds12-requires-2
     returns)

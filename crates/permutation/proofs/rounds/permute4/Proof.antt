@@ -11,17 +11,11 @@ use borrow.Author.Needs.{needs}
 use Rattle.permutation.proofs.rounds.permute4.Statement.{statement}
 use Rattle.permutation.proofs.rounds.permute4.Tie as tie
 
-load-requires : tie.Need-load-requires
-load-requires c κs = search needs
-
 full-rounds4-requires : tie.Need-full-rounds4-requires
 full-rounds4-requires c κs =
     let i = c .before .before in
     let a = i .args in
     (omega arith, omega arith, fewer-words (lit< tt) (0 + 4 * a .half) (4 * (2 * a .half) + a .partial-rounds) (a .constants .now) (omega arith) (i .pre .3))
-
-mul-partial-rounds4 : tie.Need-mul-partial-rounds4
-mul-partial-rounds4 c = search needs
 
 partial-rounds4-requires : tie.Need-partial-rounds4-requires
 partial-rounds4-requires c κs =
@@ -29,23 +23,11 @@ partial-rounds4-requires c κs =
     let a = i .args in
     (omega arith, omega arith, fewer-words (lit< tt) (4 * a .half + a .partial-rounds) (4 * (2 * a .half) + a .partial-rounds) (a .constants .now) (omega arith) (i .pre .3))
 
-mul-at : tie.Need-mul-at
-mul-at c = search needs
-
-add-at : tie.Need-add-at
-add-at c = search needs
-
 raise4-requires : tie.Need-raise4-requires
 raise4-requires c κs =
     let i = c .before .before .before .before in
     let a = i .args in
     (omega arith, fewer-words (lit< tt) (4 * a .half + a .partial-rounds + 4) (4 * (2 * a .half) + a .partial-rounds) (a .constants .now) (omega arith) (i .pre .3))
-
-add-full-rounds4 : tie.Need-add-full-rounds4
-add-full-rounds4 c = search needs
-
-sub-full-rounds4 : tie.Need-sub-full-rounds4
-sub-full-rounds4 c = search needs
 
 full-rounds4-requires-2 : tie.Need-full-rounds4-requires-2
 full-rounds4-requires-2 c κs =
@@ -70,14 +52,5 @@ pub permute4-spec : {M : Type 1} → statement M
 permute4-spec =
     tie.close
     (tie.spec
-    load-requires
-    full-rounds4-requires
-    mul-partial-rounds4
-    partial-rounds4-requires
-    mul-at
-    add-at
-    raise4-requires
-    add-full-rounds4
-    sub-full-rounds4
-    full-rounds4-requires-2
-    returns)
+    (search needs) full-rounds4-requires (search needs) partial-rounds4-requires (search needs) (search needs) raise4-requires
+    (search needs) (search needs) full-rounds4-requires-2 returns)

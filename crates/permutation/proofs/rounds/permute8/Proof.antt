@@ -12,23 +12,11 @@ use borrow.Author.Needs.{needs}
 use Rattle.permutation.proofs.rounds.permute8.Statement.{statement}
 use Rattle.permutation.proofs.rounds.permute8.Tie as tie
 
-load-requires : tie.Need-load-requires
-load-requires c κs = search needs
-
-add-load : tie.Need-add-load
-add-load c = search needs
-
-load-requires-2 : tie.Need-load-requires-2
-load-requires-2 c κs = search needs
-
 full-rounds8-requires : tie.Need-full-rounds8-requires
 full-rounds8-requires c κs =
     let i = c .before .before .before in
     let a = i .args in
     (omega arith, omega arith, fewer-words (lit< tt) (0 + 8 * a .half) (8 * (2 * a .half) + a .partial-rounds) (a .constants .now) (omega arith) (i .pre .3))
-
-mul-partial-rounds8 : tie.Need-mul-partial-rounds8
-mul-partial-rounds8 c = search needs
 
 partial-rounds8-requires : tie.Need-partial-rounds8-requires
 partial-rounds8-requires c κs =
@@ -36,23 +24,11 @@ partial-rounds8-requires c κs =
     let a = i .args in
     (omega arith, omega arith, fewer-words (lit< tt) (8 * a .half + a .partial-rounds) (8 * (2 * a .half) + a .partial-rounds) (a .constants .now) (omega arith) (i .pre .3))
 
-mul-at : tie.Need-mul-at
-mul-at c = search needs
-
-add-at : tie.Need-add-at
-add-at c = search needs
-
 raise8-requires : tie.Need-raise8-requires
 raise8-requires c κs =
     let i = c .before .before .before .before .before in
     let a = i .args in
     (omega arith, fewer-words (lit< tt) (8 * a .half + a .partial-rounds + 8) (8 * (2 * a .half) + a .partial-rounds) (a .constants .now) (omega arith) (i .pre .3))
-
-add-full-rounds8 : tie.Need-add-full-rounds8
-add-full-rounds8 c = search needs
-
-sub-full-rounds8 : tie.Need-sub-full-rounds8
-sub-full-rounds8 c = search needs
 
 full-rounds8-requires-2 : tie.Need-full-rounds8-requires-2
 full-rounds8-requires-2 c κs =
@@ -78,16 +54,5 @@ pub permute8-spec : {M : Type 1} → statement M
 permute8-spec =
     tie.close
     (tie.spec
-    load-requires
-    add-load
-    load-requires-2
-    full-rounds8-requires
-    mul-partial-rounds8
-    partial-rounds8-requires
-    mul-at
-    add-at
-    raise8-requires
-    add-full-rounds8
-    sub-full-rounds8
-    full-rounds8-requires-2
-    returns)
+    (search needs) (search needs) (search needs) full-rounds8-requires (search needs) partial-rounds8-requires (search needs)
+    (search needs) raise8-requires (search needs) (search needs) full-rounds8-requires-2 returns)
