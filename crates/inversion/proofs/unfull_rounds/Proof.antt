@@ -24,9 +24,6 @@ loop-holds c =
     let xs = a .state .now in
     (omega arith, full-none (length xs) (a .constants .now) (a .at) (a .rounds) xs, record { width = refl; words = c .before .pre .1 })
 
-sub-i : tie.Need-sub-i Inv-loop μ-loop
-sub-i c = omega arith
-
 unexternal-requires : tie.Need-unexternal-requires Inv-loop μ-loop
 unexternal-requires c κs =
     let l = c .before .before in
@@ -56,9 +53,6 @@ unraise-requires c κs =
     let v = unexternal-step (s .pre .0) (l .loop .inv .2) (u .unexternal .ensures) in
     let f = round-fits _ _ (l .loop .i) (s .args .rounds) (v .width) (u .before .before .loop-test .taken) (l .loop .inv .0) in
     (omega (arith, f, s .pre .2), fewer-words (s .pre .3) (omega (arith, f)), v .words)
-
-loop-less : tie.Need-loop-less Inv-loop μ-loop
-loop-less c = omega arith
 
 loop-again : tie.Need-loop-again Inv-loop μ-loop
 loop-again c =
@@ -91,15 +85,5 @@ pub unfull-rounds-spec : {M : Type 1} → statement M
 unfull-rounds-spec =
     tie.close
     (tie.spec
-    Inv-loop
-    μ-loop
-    loop-holds
-    sub-i
-    unexternal-requires
-    mul-unraise
-    add-unraise
-    unraise-requires
-    loop-less
-    loop-again
-    same-length
-    returns)
+    Inv-loop μ-loop loop-holds (λ c. omega arith) unexternal-requires mul-unraise add-unraise unraise-requires (λ c. omega arith)
+    loop-again same-length returns)

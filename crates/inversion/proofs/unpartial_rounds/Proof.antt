@@ -25,9 +25,6 @@ loop-holds c =
     let xs = a .state .now in
     (omega arith, partial-none (take (length xs) (a .inverses .now)) (a .total-inverse) (a .constants .now) (a .at) (a .rounds) xs, record { width = refl; words = c .before .pre .1 })
 
-sub-i : tie.Need-sub-i Inv-loop μ-loop
-sub-i c = omega arith
-
 uninternal-requires : tie.Need-uninternal-requires Inv-loop μ-loop
 uninternal-requires c κs =
     let l = c .before .before in
@@ -49,15 +46,6 @@ seventh-root-requires c κs =
     let v = internal-step (s .args .inverses .now) (s .args .total-inverse) _ (l .loop .inv .2) (u .uninternal .ensures) in
     v .1 .words .at 0
 
-add-difference : tie.Need-add-difference Inv-loop μ-loop
-add-difference c = omega arith
-
-mul-difference : tie.Need-mul-difference Inv-loop μ-loop
-mul-difference c = omega arith
-
-element-copy-out-difference : tie.Need-element-copy-out-difference Inv-loop μ-loop
-element-copy-out-difference c = omega arith
-
 difference-requires : tie.Need-difference-requires Inv-loop μ-loop
 difference-requires c κs =
     let l = c .before .before .before .before .before .before .before .before in
@@ -70,9 +58,6 @@ slice-write-state c =
     let s = l .before .before in
     let v = internal-step (s .args .inverses .now) (s .args .total-inverse) _ (l .loop .inv .2) (u .uninternal .ensures) in
     omega (arith, v .1 .width, width-small (s .pre .0))
-
-loop-less : tie.Need-loop-less Inv-loop μ-loop
-loop-less c = omega arith
 
 loop-again : tie.Need-loop-again Inv-loop μ-loop
 loop-again c =
@@ -110,19 +95,5 @@ pub unpartial-rounds-spec : {M : Type 1} → statement M
 unpartial-rounds-spec =
     tie.close
     (tie.spec
-    Inv-loop
-    μ-loop
-    loop-holds
-    sub-i
-    uninternal-requires
-    slice-read-seventh-root
-    seventh-root-requires
-    add-difference
-    mul-difference
-    element-copy-out-difference
-    difference-requires
-    slice-write-state
-    loop-less
-    loop-again
-    same-length
-    returns)
+    Inv-loop μ-loop loop-holds (λ c. omega arith) uninternal-requires slice-read-seventh-root seventh-root-requires (λ c. omega arith)
+    (λ c. omega arith) (λ c. omega arith) difference-requires slice-write-state (λ c. omega arith) loop-again same-length returns)

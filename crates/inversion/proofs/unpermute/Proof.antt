@@ -23,12 +23,6 @@ total-inverse-requires c κs =
     let e = sym (k .kept-inverses .ensures) in
     (width-small (s .pre .0 .width) .1, subst (Words p) e (kept-words D (s .pre .1)), subst (λ (es : List ℕ). 0 < (1 + sum (take (s .args .width) es)) % p) e (kept-sum D (s .pre .1)))
 
-unpermute-by-requires : tie.Need-unpermute-by-requires
-unpermute-by-requires c κs = search needs
-
-same-length : tie.Need-same-length
-same-length c = search needs
-
 returns : tie.Need-returns
 returns c =
     let k = c .before .before .before .before .before in
@@ -43,6 +37,4 @@ returns c =
     ∙ kept-unpermute D (s .pre .1) (a .half) (a .partial-rounds) (a .constants .now) (a .state .now) (s .pre .0 .state .width)
 
 pub unpermute-spec : {M : Type 1} → statement M
-unpermute-spec =
-    tie.close
-    (tie.spec kept-inverses-requires total-inverse-requires unpermute-by-requires same-length returns)
+unpermute-spec = tie.close (tie.spec kept-inverses-requires total-inverse-requires (λ c κs. search needs) (search needs) returns)

@@ -60,9 +60,6 @@ unexternal-requires c κs =
     let x3 = full-step _ _ _ (s .pre .width) (x2 .1) (c .before .before .before .unfull-rounds2 .ensures) in
     (subst Width (sym (x3 .1 .width)) (s .pre .width), x3 .1 .words)
 
-same-length : tie.Need-same-length
-same-length c = search needs
-
 returns : tie.Need-returns
 unfolding unpermuteBy
 returns c =
@@ -81,11 +78,5 @@ pub unpermute-by-spec : {M : Type 1} → statement M
 unpermute-by-spec =
     tie.close
     (tie.spec
-    mul-middle
-    add-unfull-rounds
-    unfull-rounds-requires
-    unpartial-rounds-requires
-    unfull-rounds-requires-2
-    unexternal-requires
-    same-length
-    returns)
+    mul-middle add-unfull-rounds unfull-rounds-requires unpartial-rounds-requires unfull-rounds-requires-2 unexternal-requires
+    (search needs) returns)

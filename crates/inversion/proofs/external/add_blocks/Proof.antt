@@ -6,38 +6,14 @@ use Rattle.inversion.proofs.Blocks.{add-four}
 use Rattle.inversion.proofs.external.add_blocks.Statement.{statement}
 use Rattle.inversion.proofs.external.add_blocks.Tie as tie
 
-array-read-sum : tie.Need-array-read-sum
-array-read-sum c = search needs
-
-array-read-sum-2 : tie.Need-array-read-sum-2
-array-read-sum-2 c = search needs
-
 sum-requires : tie.Need-sum-requires
 sum-requires c κs = (c .pre .0 .at 0, c .pre .1 .at 0)
-
-array-read-sum-3 : tie.Need-array-read-sum-3
-array-read-sum-3 c = search needs
-
-array-read-sum-4 : tie.Need-array-read-sum-4
-array-read-sum-4 c = search needs
 
 sum-requires-2 : tie.Need-sum-requires-2
 sum-requires-2 c κs = (c .before .pre .0 .at 1, c .before .pre .1 .at 1)
 
-array-read-sum-5 : tie.Need-array-read-sum-5
-array-read-sum-5 c = search needs
-
-array-read-sum-6 : tie.Need-array-read-sum-6
-array-read-sum-6 c = search needs
-
 sum-requires-3 : tie.Need-sum-requires-3
 sum-requires-3 c κs = (c .before .before .pre .0 .at 2, c .before .before .pre .1 .at 2)
-
-array-read-sum-7 : tie.Need-array-read-sum-7
-array-read-sum-7 c = search needs
-
-array-read-sum-8 : tie.Need-array-read-sum-8
-array-read-sum-8 c = search needs
 
 sum-requires-4 : tie.Need-sum-requires-4
 sum-requires-4 c κs = (c .before .before .before .pre .0 .at 3, c .before .before .before .pre .1 .at 3)
@@ -52,16 +28,5 @@ pub add-blocks-spec : {M : Type 1} → statement M
 add-blocks-spec =
     tie.close
     (tie.spec
-    array-read-sum
-    array-read-sum-2
-    sum-requires
-    array-read-sum-3
-    array-read-sum-4
-    sum-requires-2
-    array-read-sum-5
-    array-read-sum-6
-    sum-requires-3
-    array-read-sum-7
-    array-read-sum-8
-    sum-requires-4
-    returns)
+    (search needs) (search needs) sum-requires (search needs) (search needs) sum-requires-2 (search needs) (search needs) sum-requires-3
+    (search needs) (search needs) sum-requires-4 returns)

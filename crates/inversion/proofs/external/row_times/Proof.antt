@@ -7,32 +7,8 @@ use Rattle.inversion.proofs.Blocks.{row-four}
 use Rattle.inversion.proofs.external.row_times.Statement.{statement}
 use Rattle.inversion.proofs.external.row_times.Tie as tie
 
-array-read-product : tie.Need-array-read-product
-array-read-product c = search needs
-
-product-requires : tie.Need-product-requires
-product-requires c κs = search needs
-
-array-read-product-2 : tie.Need-array-read-product-2
-array-read-product-2 c = search needs
-
-product-requires-2 : tie.Need-product-requires-2
-product-requires-2 c κs = search needs
-
 sum-requires : tie.Need-sum-requires
 sum-requires c κs = (rw (c .before .product .ensures) (mul-word _ _), rw (c .product2 .ensures) (mul-word _ _))
-
-array-read-product-3 : tie.Need-array-read-product-3
-array-read-product-3 c = search needs
-
-product-requires-3 : tie.Need-product-requires-3
-product-requires-3 c κs = search needs
-
-array-read-product-4 : tie.Need-array-read-product-4
-array-read-product-4 c = search needs
-
-product-requires-4 : tie.Need-product-requires-4
-product-requires-4 c κs = search needs
 
 sum-requires-2 : tie.Need-sum-requires-2
 sum-requires-2 c κs = (rw (c .before .product3 .ensures) (mul-word _ _), rw (c .product4 .ensures) (mul-word _ _))
@@ -55,15 +31,5 @@ pub row-times-spec : {M : Type 1} → statement M
 row-times-spec =
     tie.close
     (tie.spec
-    array-read-product
-    product-requires
-    array-read-product-2
-    product-requires-2
-    sum-requires
-    array-read-product-3
-    product-requires-3
-    array-read-product-4
-    product-requires-4
-    sum-requires-2
-    sum-requires-3
-    returns)
+    (search needs) (search needs) (search needs) (search needs) sum-requires (search needs) (search needs) (search needs) (search needs)
+    sum-requires-2 sum-requires-3 returns)

@@ -17,30 +17,6 @@ sum-blocks-requires c κs =
     let s = c .before .before in
     (⊎-elim (λ h. omega arith) (λ h. omega arith) (s .pre .0), s .pre .1)
 
-array-read-product : tie.Need-array-read-product
-array-read-product c = search needs
-
-product-requires : tie.Need-product-requires
-product-requires c κs = search needs
-
-array-read-product-2 : tie.Need-array-read-product-2
-array-read-product-2 c = search needs
-
-product-requires-2 : tie.Need-product-requires-2
-product-requires-2 c κs = search needs
-
-array-read-product-3 : tie.Need-array-read-product-3
-array-read-product-3 c = search needs
-
-product-requires-3 : tie.Need-product-requires-3
-product-requires-3 c κs = search needs
-
-array-read-product-4 : tie.Need-array-read-product-4
-array-read-product-4 c = search needs
-
-product-requires-4 : tie.Need-product-requires-4
-product-requires-4 c κs = search needs
-
 returns : tie.Need-returns
 returns c =
     let u = c .before .before .before .before in
@@ -59,13 +35,5 @@ pub share-spec : {M : Type 1} → statement M
 share-spec =
     tie.close
     (tie.spec
-    sum-blocks-requires
-    array-read-product
-    product-requires
-    array-read-product-2
-    product-requires-2
-    array-read-product-3
-    product-requires-3
-    array-read-product-4
-    product-requires-4
-    returns)
+    sum-blocks-requires (search needs) (search needs) (search needs) (search needs) (search needs) (search needs) (search needs)
+    (search needs) returns)

@@ -22,20 +22,11 @@ loop-holds c =
     let s = c .before in
     (omega arith, s .pre .0, sum-none p (s .args .state .now))
 
-sub-i : tie.Need-sub-i Inv-loop μ-loop
-sub-i c = omega arith
-
-block-at-requires : tie.Need-block-at-requires Inv-loop μ-loop
-block-at-requires c κs = omega arith
-
 add-blocks-requires : tie.Need-add-blocks-requires Inv-loop μ-loop
 add-blocks-requires c κs =
     let l = c .before .before in
     let s = l .before .before in
     (rw (c .block-at .ensures) (block-words positive (l .loop .i - 4) (s .args .state .now) (s .pre .1)), rw (l .loop .inv .2) (sum-words positive (blocks (drop (l .loop .i) (s .args .state .now)))))
-
-loop-less : tie.Need-loop-less Inv-loop μ-loop
-loop-less c = omega arith
 
 loop-again : tie.Need-loop-again Inv-loop μ-loop
 loop-again c =
@@ -59,12 +50,4 @@ pub sum-blocks-spec : {M : Type 1} → statement M
 sum-blocks-spec =
     tie.close
     (tie.spec
-    Inv-loop
-    μ-loop
-    loop-holds
-    sub-i
-    block-at-requires
-    add-blocks-requires
-    loop-less
-    loop-again
-    returns)
+    Inv-loop μ-loop loop-holds (λ c. omega arith) (λ c κs. omega arith) add-blocks-requires (λ c. omega arith) loop-again returns)

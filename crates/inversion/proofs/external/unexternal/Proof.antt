@@ -15,9 +15,6 @@ use Rattle.inversion.proofs.external.unexternal.Tie as tie
 unm4-each-requires : tie.Need-unm4-each-requires
 unm4-each-requires c κs = (omega arith, zero-words, c .before .before .before .pre .1)
 
-same-length : tie.Need-same-length
-same-length c = search needs
-
 returns : tie.Need-returns
 returns c =
     let t = c .before .before .before .before in
@@ -34,9 +31,6 @@ unm4-each-requires-2 c κs =
     let s = c .before .before .before .before .before in
     (whole-width (s .pre .0), subst (Words p) (sym (c .before .share .ensures)) (scaled-words _ _), s .pre .1)
 
-same-length-2 : tie.Need-same-length-2
-same-length-2 c = search needs
-
 returns-2 : tie.Need-returns-2
 returns-2 c =
     let u = c .before .before .before .before in
@@ -50,10 +44,4 @@ pub unexternal-spec : {M : Type 1} → statement M
 unexternal-spec =
     tie.close
     (tie.spec
-    unm4-each-requires
-    same-length
-    returns
-    share-requires
-    unm4-each-requires-2
-    same-length-2
-    returns-2)
+    unm4-each-requires (search needs) returns share-requires unm4-each-requires-2 (search needs) returns-2)

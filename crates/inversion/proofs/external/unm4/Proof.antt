@@ -9,54 +9,6 @@ use Rattle.inversion.proofs.Parts.{eighth}
 use Rattle.inversion.proofs.external.unm4.Statement.{statement}
 use Rattle.inversion.proofs.external.unm4.Tie as tie
 
-sub-row-times : tie.Need-sub-row-times
-sub-row-times c = search needs
-
-sub-row-times-2 : tie.Need-sub-row-times-2
-sub-row-times-2 c = search needs
-
-row-times-requires : tie.Need-row-times-requires
-row-times-requires c κs = search needs
-
-sub-row-times-3 : tie.Need-sub-row-times-3
-sub-row-times-3 c = search needs
-
-sub-row-times-4 : tie.Need-sub-row-times-4
-sub-row-times-4 c = search needs
-
-row-times-requires-2 : tie.Need-row-times-requires-2
-row-times-requires-2 c κs = search needs
-
-sub-row-times-5 : tie.Need-sub-row-times-5
-sub-row-times-5 c = search needs
-
-sub-row-times-6 : tie.Need-sub-row-times-6
-sub-row-times-6 c = search needs
-
-row-times-requires-3 : tie.Need-row-times-requires-3
-row-times-requires-3 c κs = search needs
-
-sub-row-times-7 : tie.Need-sub-row-times-7
-sub-row-times-7 c = search needs
-
-sub-row-times-8 : tie.Need-sub-row-times-8
-sub-row-times-8 c = search needs
-
-row-times-requires-4 : tie.Need-row-times-requires-4
-row-times-requires-4 c κs = search needs
-
-product-requires : tie.Need-product-requires
-product-requires c κs = search needs
-
-product-requires-2 : tie.Need-product-requires-2
-product-requires-2 c κs = search needs
-
-product-requires-3 : tie.Need-product-requires-3
-product-requires-3 c κs = search needs
-
-product-requires-4 : tie.Need-product-requires-4
-product-requires-4 c κs = search needs
-
 returns : tie.Need-returns
 unfolding unm4 scaled rowsTimes unm4Rows negative
 returns c =
@@ -70,20 +22,5 @@ pub unm4-spec : {M : Type 1} → statement M
 unm4-spec =
     tie.close
     (tie.spec
-    sub-row-times
-    sub-row-times-2
-    row-times-requires
-    sub-row-times-3
-    sub-row-times-4
-    row-times-requires-2
-    sub-row-times-5
-    sub-row-times-6
-    row-times-requires-3
-    sub-row-times-7
-    sub-row-times-8
-    row-times-requires-4
-    product-requires
-    product-requires-2
-    product-requires-3
-    product-requires-4
-    returns)
+    (search needs) (search needs) (search needs) (search needs) (search needs) (search needs) (search needs) (search needs) (search needs)
+    (search needs) (search needs) (search needs) (search needs) (search needs) (search needs) (search needs) returns)

@@ -24,9 +24,6 @@ loop-holds c =
     let s = c .before in
     (omega arith, each-none p (s .args .block) (s .args .state .now))
 
-block-at-requires : tie.Need-block-at-requires Inv-loop μ-loop
-block-at-requires c κs = omega arith
-
 add-blocks-requires : tie.Need-add-blocks-requires Inv-loop μ-loop
 add-blocks-requires c κs =
     let l = c .before .before .before in
@@ -35,15 +32,6 @@ add-blocks-requires c κs =
 
 unm4-requires : tie.Need-unm4-requires Inv-loop μ-loop
 unm4-requires c κs = tt
-
-put-block-requires : tie.Need-put-block-requires Inv-loop μ-loop
-put-block-requires c κs = omega arith
-
-add-i : tie.Need-add-i Inv-loop μ-loop
-add-i c = omega arith
-
-loop-less : tie.Need-loop-less Inv-loop μ-loop
-loop-less c = omega arith
 
 loop-again : tie.Need-loop-again Inv-loop μ-loop
 loop-again c =
@@ -59,9 +47,6 @@ loop-again c =
           (c .before .before .put-block .ensures ∙ ap (λ (x : List ℕ). take i st ++ x ++ drop (i + 4) st) w),
     )
 
-same-length : tie.Need-same-length Inv-loop μ-loop
-same-length c = omega arith
-
 returns : tie.Need-returns Inv-loop μ-loop
 returns c =
     let l = c .before in
@@ -72,15 +57,5 @@ pub unm4-each-spec : {M : Type 1} → statement M
 unm4-each-spec =
     tie.close
     (tie.spec
-    Inv-loop
-    μ-loop
-    loop-holds
-    block-at-requires
-    add-blocks-requires
-    unm4-requires
-    put-block-requires
-    add-i
-    loop-less
-    loop-again
-    same-length
-    returns)
+    Inv-loop μ-loop loop-holds (λ c κs. omega arith) add-blocks-requires unm4-requires (λ c κs. omega arith) (λ c. omega arith)
+    (λ c. omega arith) loop-again (λ c. omega arith) returns)

@@ -19,29 +19,11 @@ abbrev μ-loop : tie.MeasureT-loop
 loop-holds : tie.Need-loop-holds Inv-loop μ-loop
 loop-holds c = (omega arith, done-none _ _)
 
-mul-inverse : tie.Need-mul-inverse Inv-loop μ-loop
-mul-inverse c = omega arith
-
-element-copy-out-inverse : tie.Need-element-copy-out-inverse Inv-loop μ-loop
-element-copy-out-inverse c = omega arith
-
 inverse-requires : tie.Need-inverse-requires Inv-loop μ-loop
 inverse-requires c κs =
     let s = c .before .before .before in
     let D = s .args .diagonal .now in
     (nonzero-at D (s .pre .1) (c .before .before .loop .i) (c .before .loop-test .taken), word-at D (s .pre .1) (c .before .before .loop .i) (c .before .loop-test .taken))
-
-mul-inverses : tie.Need-mul-inverses Inv-loop μ-loop
-mul-inverses c = omega arith
-
-array-write-inverses : tie.Need-array-write-inverses Inv-loop μ-loop
-array-write-inverses c = omega arith
-
-add-i : tie.Need-add-i Inv-loop μ-loop
-add-i c = omega arith
-
-loop-less : tie.Need-loop-less Inv-loop μ-loop
-loop-less c = omega arith
 
 loop-again : tie.Need-loop-again Inv-loop μ-loop
 loop-again c =
@@ -61,15 +43,5 @@ pub kept-inverses-spec : {M : Type 1} → statement M
 kept-inverses-spec =
     tie.close
     (tie.spec
-    Inv-loop
-    μ-loop
-    loop-holds
-    mul-inverse
-    element-copy-out-inverse
-    inverse-requires
-    mul-inverses
-    array-write-inverses
-    add-i
-    loop-less
-    loop-again
-    returns)
+    Inv-loop μ-loop loop-holds (λ c. omega arith) (λ c. omega arith) inverse-requires (λ c. omega arith) (λ c. omega arith)
+    (λ c. omega arith) (λ c. omega arith) loop-again returns)

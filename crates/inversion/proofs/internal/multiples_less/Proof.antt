@@ -17,38 +17,11 @@ abbrev μ-loop : tie.MeasureT-loop
 loop-holds : tie.Need-loop-holds Inv-loop μ-loop
 loop-holds c = (omega arith, refl, done-none _ _)
 
-mul-product : tie.Need-mul-product Inv-loop μ-loop
-mul-product c = omega arith
-
-element-copy-out-product : tie.Need-element-copy-out-product Inv-loop μ-loop
-element-copy-out-product c = omega arith
-
-mul-difference : tie.Need-mul-difference Inv-loop μ-loop
-mul-difference c = omega arith
-
-slice-read-difference : tie.Need-slice-read-difference Inv-loop μ-loop
-slice-read-difference c = omega arith
-
 difference-requires : tie.Need-difference-requires Inv-loop μ-loop
 difference-requires c κs =
     let l = c .before .before .before in
     let s = l .before .before in
     (done-word _ (l .loop .i) (s .args .state .now) (l .loop .state) (l .loop .inv .2) (s .pre .2), s .pre .0)
-
-product-requires : tie.Need-product-requires Inv-loop μ-loop
-product-requires c κs = omega arith
-
-mul-state : tie.Need-mul-state Inv-loop μ-loop
-mul-state c = omega arith
-
-slice-write-state : tie.Need-slice-write-state Inv-loop μ-loop
-slice-write-state c = omega arith
-
-add-i : tie.Need-add-i Inv-loop μ-loop
-add-i c = omega arith
-
-loop-less : tie.Need-loop-less Inv-loop μ-loop
-loop-less c = omega arith
 
 loop-again : tie.Need-loop-again Inv-loop μ-loop
 loop-again c =
@@ -56,9 +29,6 @@ loop-again c =
     let s = l .before .before in
     let es = s .args .inverses .now in
     (simp length-set (omega arith), simp length-set (l .loop .inv .1), done-more (λ k y. mul p (getD es k 0) (sub p y (s .args .s))) (l .loop .i) (s .args .state .now) (l .loop .state) (c .product .result) (l .loop .inv .2) (omega arith) (c .product .ensures ∙ ap (mul p (getD es (l .loop .i) 0)) (c .before .difference .ensures)))
-
-same-length : tie.Need-same-length Inv-loop μ-loop
-same-length c = omega arith
 
 returns : tie.Need-returns Inv-loop μ-loop
 returns c =
@@ -72,19 +42,6 @@ pub multiples-less-spec : {M : Type 1} → statement M
 multiples-less-spec =
     tie.close
     (tie.spec
-    Inv-loop
-    μ-loop
-    loop-holds
-    mul-product
-    element-copy-out-product
-    mul-difference
-    slice-read-difference
-    difference-requires
-    product-requires
-    mul-state
-    slice-write-state
-    add-i
-    loop-less
-    loop-again
-    same-length
+    Inv-loop μ-loop loop-holds (λ c. omega arith) (λ c. omega arith) (λ c. omega arith) (λ c. omega arith) difference-requires
+    (λ c κs. omega arith) (λ c. omega arith) (λ c. omega arith) (λ c. omega arith) (λ c. omega arith) loop-again (λ c. omega arith)
     returns)

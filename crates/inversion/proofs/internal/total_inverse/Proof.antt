@@ -6,15 +6,9 @@ use Rattle.inversion.specs.Kept.{totalInverse}
 use Rattle.inversion.proofs.internal.total_inverse.Statement.{statement}
 use Rattle.inversion.proofs.internal.total_inverse.Tie as tie
 
-one-and-sum-requires : tie.Need-one-and-sum-requires
-one-and-sum-requires c κs = search needs
-
-inverse-requires : tie.Need-inverse-requires
-inverse-requires c κs = search needs
-
 returns : tie.Need-returns
 unfolding totalInverse
 returns c = c .inverse .ensures ∙ ap (inverse p) (c .before .one-and-sum .ensures)
 
 pub total-inverse-spec : {M : Type 1} → statement M
-total-inverse-spec = tie.close (tie.spec one-and-sum-requires inverse-requires returns)
+total-inverse-spec = tie.close (tie.spec (λ c κs. search needs) (search needs) returns)

@@ -13,19 +13,10 @@ use Rattle.inversion.proofs.Kept.{multiplesLess-take, multiplesLess-sam
 use Rattle.inversion.proofs.internal.uninternal.Statement.{statement}
 use Rattle.inversion.proofs.internal.uninternal.Tie as tie
 
-weighted-sum-requires : tie.Need-weighted-sum-requires
-weighted-sum-requires c κs = search needs
-
-product-requires : tie.Need-product-requires
-product-requires c κs = search needs
-
 multiples-less-requires : tie.Need-multiples-less-requires
 multiples-less-requires c κs =
     let s = c .before .before .before .before .before in
     (rw (c .before .product .ensures) (mul-word _ _), s .pre .0, s .pre .1)
-
-same-length : tie.Need-same-length
-same-length c = search needs
 
 returns : tie.Need-returns
 unfolding uninternalBy mul
@@ -40,6 +31,4 @@ returns c =
     c .before .before .multiples-less .ensures ∙ sym (multiplesLess-take p (u .product .result) (a .inverses .now) ys) ∙ multiplesLess-same p same es ys
 
 pub uninternal-spec : {M : Type 1} → statement M
-uninternal-spec =
-    tie.close
-    (tie.spec weighted-sum-requires product-requires multiples-less-requires same-length returns)
+uninternal-spec = tie.close (tie.spec (search needs) (search needs) multiples-less-requires (search needs) returns)

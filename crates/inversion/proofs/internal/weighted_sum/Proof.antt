@@ -22,29 +22,8 @@ loop-holds : tie.Need-loop-holds Inv-loop μ-loop
 unfolding dot
 loop-holds c = (omega arith, refl)
 
-mul-product : tie.Need-mul-product Inv-loop μ-loop
-mul-product c = omega arith
-
-element-copy-out-product : tie.Need-element-copy-out-product Inv-loop μ-loop
-element-copy-out-product c = omega arith
-
-mul-product-2 : tie.Need-mul-product-2 Inv-loop μ-loop
-mul-product-2 c = omega arith
-
-shared-slice-read-product : tie.Need-shared-slice-read-product Inv-loop μ-loop
-shared-slice-read-product c = omega arith
-
-product-requires : tie.Need-product-requires Inv-loop μ-loop
-product-requires c κs = omega arith
-
 sum-requires : tie.Need-sum-requires Inv-loop μ-loop
 sum-requires c κs = (rw (c .before .before .before .before .loop .inv .1) (below positive _), rw (c .product .ensures) (mul-word _ _))
-
-add-i : tie.Need-add-i Inv-loop μ-loop
-add-i c = omega arith
-
-loop-less : tie.Need-loop-less Inv-loop μ-loop
-loop-less c = omega arith
 
 loop-again : tie.Need-loop-again Inv-loop μ-loop
 loop-again c =
@@ -62,16 +41,5 @@ pub weighted-sum-spec : {M : Type 1} → statement M
 weighted-sum-spec =
     tie.close
     (tie.spec
-    Inv-loop
-    μ-loop
-    loop-holds
-    mul-product
-    element-copy-out-product
-    mul-product-2
-    shared-slice-read-product
-    product-requires
-    sum-requires
-    add-i
-    loop-less
-    loop-again
-    returns)
+    Inv-loop μ-loop loop-holds (λ c. omega arith) (λ c. omega arith) (λ c. omega arith) (λ c. omega arith) (λ c κs. omega arith)
+    sum-requires (λ c. omega arith) (λ c. omega arith) loop-again returns)
