@@ -1,4 +1,4 @@
--- A set, a store, a place and a leaf that no row turns back.
+-- A set, a store, a place and a leaf that are not refused.
 use mathlib.Core.Path.{_≡_}
 use mathlib.Core.Bool.{not, _&&_}
 use mathlib.Core.List.{List}

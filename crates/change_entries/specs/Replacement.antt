@@ -1,4 +1,4 @@
--- What a replacement replies and leaves, for any set, numbers and store.
+-- What a replacement replies and leaves, for any set, numbers and store (Rules 5.2, 8.8).
 use mathlib.Core.Bool.{not, _&&_}
 use mathlib.Core.List.{List, [], _∷_, _++_}
 use Prim.Native.Nat.{ℕ, suc}
@@ -12,12 +12,12 @@ use Rattle.tree_entries.specs.Trees.{has, noPlace}
 use Rattle.change_entries.specs.declared.changed.Changed.{Changed}
 use Rattle.change_entries.specs.declared.changed.Changed.the-variants.{Compressions, Refused}
 
--- The number and the values of each case of the answer.
+-- The reply that each case of the answer is (Rules 8.5).
 unfoldable pub changedReply : Changed → Reply
 changedReply (Compressions n) = done (n ∷ [])
 changedReply (Refused n) = refused n
 
--- Row 12 covers the leaf and "for one replacement also the stored siblings it reads".
+-- Refusal 12 tests the leaf, and the siblings in the store that a replacement reads.
 unfoldable pub replaceRefusals : ℕ → ParameterSet → List ℕ → ℕ → List ℕ → List Refusal
 replaceRefusals p s store q leaf =
     setRefusals p s
@@ -25,11 +25,11 @@ replaceRefusals p s store q leaf =
     ∷ noPlace p s q
     ∷ notWords p (leaf ++ opening (treeOf p s) (s .height) q store) ∷ [])
 
--- "A replacement writes the leaf at q and the h nodes above it from stored siblings, nothing else"
+-- The leaf at its place and the h nodes above it, with the count (Rules 5.2).
 abbrev pub replacement : ℕ → ParameterSet → List ℕ → ℕ → List ℕ → Counted
 replacement p s store q leaf = replace (treeOf p s) (s .height) q leaf store
 
--- "and reports the compressions made."
+-- The answer is the count at the end.
 unfoldable pub replaceReply : ℕ → ParameterSet → List ℕ → ℕ → List ℕ → Reply
 replaceReply p s store q leaf = reply (replaceRefusals p s store q leaf) (replacement p s store q leaf .made ∷ [])
 

@@ -7,7 +7,7 @@ use crate::changed::Changed;
 use parameters::ParameterSet;
 use trees::sets;
 
-// The first row that turns back a set, a store, a place and a leaf, or 0.
+// The number of the first refusal of a set, a store, a place and a leaf, or 0.
 fn refusal_of_replace(set: ParameterSet, store: &[u64], place: u64, leaf: &[u64]) -> u8
     ensures { λ r. ⌜ r ≡ firstRefusal (replaceRefusals p set (now (store .entry)) place (now (leaf .entry))) ⌝ }
 {

@@ -1,4 +1,4 @@
--- Two leaves with their openings that rows 1 to 12 do not turn back.
+-- Two leaves with their openings to which none of refusals 1 to 12 applies.
 use mathlib.Core.Path.{_≡_, ap, _∙_}
 use mathlib.Core.Bool.{Bool, true, not, _&&_}
 use mathlib.Core.List.{List, _++_}
@@ -99,7 +99,7 @@ module _ (s : ParameterSet) (two : Pair) (first second : List ℕ) where
       (ap not (lt-ltb _ _ (P .place)))
       ∙ no-twelve p _ (words-append p _ _ (P .root-words) (words-append p _ _ (P .opening .leaf-words) (words-append p _ _ (P .opening .siblings-words) (words-append p _ _ (P .other .leaf-words) (P .other .siblings-words)))))
 
--- no row of the verdict turns back such an opening
+-- the verdict on such an opening is not a refusal
 pub verify-passes : (s : ParameterSet) (top : List ℕ) (q : ℕ) (leaf siblings : List ℕ) → firstRefusal (setRefusals p s) ≡ 0 → length top ≡ s .«node_size» → allWords p top ≡ true
     → q < leafCount p s → Opening s leaf siblings → firstRefusal (verifyRefusals p s top q leaf siblings) ≡ 0
 unfolding verifyRefusals
@@ -108,7 +108,7 @@ verify-passes s top q leaf siblings z e w i O =
     (both-good _ _ (and-true _ _ (eq-eqb _ _ e) (eq-eqb _ _ (O .leaf-long))) (eq-eqb _ _ (O .siblings-long))) (ap not (lt-ltb _ _ i))
     ∙ no-twelve p _ (words-append p _ _ w (words-append p _ _ (O .leaf-words) (O .siblings-words)))
 
--- so rows 1 to 12 of a pair are past for either opening
+-- so where a pair passes refusals 1 to 12 either opening does
 module _ (s : ParameterSet) (two : Pair) (first second : List ℕ) (none : firstRefusal (pairRefusals p s two first second) ≡ 0) where
   pub first-passes : firstRefusal (verifyRefusals p s (two .root) (two .place) (two .firstLeaf) (two .firstSiblings)) ≡ 0
   first-passes =

@@ -1,4 +1,4 @@
--- Where no row of the extractor applies there is a collision: its level, and both rows.
+-- Where extraction refuses nothing there is a collision: its level, and both rows.
 use mathlib.Core.Path.{_≡_, refl, sym, ap, _∙_}
 use mathlib.Core.Logic.{_≢_}
 use mathlib.Core.Bool.{Bool, true, false, not}

@@ -1,4 +1,4 @@
--- What passes where no row applies, what a verdict says there, and the collision that is found.
+-- What holds where nothing is refused, what a verdict says there, and the collision that is found.
 pub mod AcceptedPairs
 mod Verdicts
 pub mod Extracted

@@ -1,4 +1,4 @@
--- The extractor gives a collision wherever rows 1 to 12 are past and two different leaves are both accepted.
+-- Extraction gives a collision wherever none of refusals 1 to 12 applies and two different leaves are both accepted.
 use mathlib.Core.Path.{_≡_, sym, ap, subst, _∙_}
 use mathlib.Core.List.{List, [], _∷_}
 use mathlib.Core.Option.{Option}

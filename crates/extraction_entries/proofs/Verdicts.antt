@@ -1,4 +1,4 @@
--- The rows of the extractor where rows 1 to 12 are past: what its two verdicts and the leaves give.
+-- The refusals of extraction where 1 to 12 do not apply: what the two verdicts and the leaves give.
 use mathlib.Core.Path.{_≡_, refl, sym, ap, _∙_}
 use mathlib.Core.Logic.{_≢_}
 use mathlib.Core.Bool.{Bool, true, false, not, cond}
@@ -63,7 +63,7 @@ module _ (s : ParameterSet) (top : List ℕ) (q : ℕ) (leaf siblings : List ℕ
     unfolding verdictReply
     refusal-of-refused n e = absurd (no-value yes (sym (ap (λ (w : Verdict). value (verdictReply w)) e) ∙ valued))
 
--- the row of an opening, by whether it is accepted
+-- the refusal of an opening, by whether it is accepted
 pub opening-accepted : (b : Bool) {r : ℕ} → r ≡ firstRefusal (refusal 14 (not b) ∷ []) → r ≡ 0 → b ≡ true
 unfolding firstRefusal
 opening-accepted true e z = refl
@@ -74,7 +74,7 @@ unfolding firstRefusal
 opening-rejected true e n = absurd (n e)
 opening-rejected false e n = (refl, e)
 
--- the extractor's rows behind 12
+-- the refusals behind 12
 module _ (s : ParameterSet) (two : Pair) (first second : List ℕ) (none : firstRefusal (pairRefusals p s two first second) ≡ 0) where
   abbrev one : Bool
   one = accepts (treeOf p s) (s .height) (two .root) (two .place) (two .firstLeaf) (two .firstSiblings)

@@ -1,4 +1,4 @@
--- What the extractor replies and leaves, for any set, root, place, leaves, siblings and buffers.
+-- What extraction replies and leaves, for any set, root, place, leaves, siblings and buffers (Rules 5.7, 8.8).
 use mathlib.Core.Bool.{Bool, not, _&&_}
 use mathlib.Core.List.{List, [], _∷_, _++_}
 use mathlib.Core.Option.{Option, none, some}
@@ -14,12 +14,12 @@ use Rattle.tree_entries.specs.Trees.{has, noPlace}
 use Rattle.extraction_entries.specs.declared.Extraction.{Extraction}
 use Rattle.extraction_entries.specs.declared.Extraction.the-variants.{Level, Refused}
 
--- The number and the values of each case of the answer.
+-- The reply that each case of the answer is (Rules 8.5).
 unfoldable pub extractionReply : Extraction → Reply
 extractionReply (Level n) = done (n ∷ [])
 extractionReply (Refused n) = refused n
 
--- What the extractor is handed: "a set, root, place and two leaves with their openings".
+-- What extraction is handed beside the set and the buffers: a root, a place, and two leaves with siblings (Rules 5.7).
 pub record Pair : Type 0 where
   pub root : List ℕ
   pub place : ℕ
@@ -38,13 +38,13 @@ opens p s leaf siblings = has leaf (s .«node_size») && has siblings (openingWo
 module _ (p : ℕ) (s : ParameterSet) (two : Pair) where
   open Pair two using (root as top, place as q, firstLeaf as a, firstSiblings as xs, secondLeaf as b, secondSiblings as ys)
 
-  -- "10 | another lent slice not of its exact length": the root, both leaves with their siblings, and the two buffers
+  -- what refusal 10 asks the lengths of: the root, both leaves with their siblings, and the two buffers (Rules 8.8)
   unfoldable pub pairFits : List ℕ → List ℕ → Bool
   pairFits first second =
       has top (s .«node_size»)
       && (opens p s a xs && (opens p s b ys && (has first (s .width) && has second (s .width))))
 
-  -- rows 1 to 12
+  -- refusals 1 to 12
   unfoldable pub pairRefusals : List ℕ → List ℕ → List Refusal
   pairRefusals first second =
       setRefusals p s
@@ -52,19 +52,19 @@ module _ (p : ℕ) (s : ParameterSet) (two : Pair) where
       ∷ noPlace p s q
       ∷ notWords p (top ++ (a ++ (xs ++ (b ++ ys)))) ∷ [])
 
-  -- "14 | extractor: an opening isn't accepted"
+  -- where this is not so the refusal is 14 (Rules 8.1)
   unfoldable pub bothAccepted : Bool
   bothAccepted = accepts (treeOf p s) (s .height) top q a xs && accepts (treeOf p s) (s .height) top q b ys
 
-  -- "15 | extractor: equal leaves"
+  -- all refusals; 15 is of equal leaves (Rules 8.1)
   unfoldable pub extractRefusals : List ℕ → List ℕ → List Refusal
   extractRefusals first second = pairRefusals first second ++ (refusal 14 (not bothAccepted) ∷ refusal 15 (same a b) ∷ [])
 
-  -- "the lowest level at which the two rows differ and compress alike", with both rows
+  -- the lowest level at which the rows of the two leaves collide, with both rows (Rules 5.7)
   unfoldable pub collision : Option Collision
   collision = extract (treeOf p s) (s .height) q a xs b ys
 
--- What of a collision is answered and written. Once the rows are past there is one: two different leaves that are both accepted.
+-- What of a collision is answered and written. Where nothing is refused there is one, as both leaves are accepted and differ (Rules 5.8).
 unfoldable pub levelOf : Option Collision → ℕ
 levelOf none = 0
 levelOf (some c) = c .level
@@ -80,7 +80,7 @@ secondOf (some c) old = c .second
 unfoldable pub extractReply : ℕ → ParameterSet → Pair → List ℕ → List ℕ → Reply
 extractReply p s two first second = reply (extractRefusals p s two first second) (levelOf (collision p s two) ∷ [])
 
--- "writes both rows, t words each, to two lent buffers, the first leaf's row to the first"
+-- The row of the first leaf is in the first buffer, that of the second in the second (Rules 5.7).
 unfoldable pub extractedFirst : ℕ → ParameterSet → Pair → List ℕ → List ℕ → List ℕ
 extractedFirst p s two first second = after (extractReply p s two first second) first (firstOf (collision p s two) first)
 

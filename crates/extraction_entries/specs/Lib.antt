@@ -1,3 +1,3 @@
--- What the extractor replies and leaves, and what is claimed of it.
+-- What extraction replies and leaves, and what is claimed of it.
 pub mod Extraction
 pub mod Statements

@@ -1,4 +1,4 @@
--- What is claimed of the extractor: behind rows 1 to 12 it answers 14, 15, or a collision.
+-- What is claimed of extraction: where none of refusals 1 to 12 applies, the answer is 14, 15 or a collision.
 use mathlib.Core.Path.{_≡_}
 use mathlib.Core.Logic.{_≢_}
 use mathlib.Core.Bool.{true}
@@ -16,19 +16,19 @@ use Rattle.extraction_entries.specs.Extraction.{Pair, pairRefusals, both
 abbrev pub IsRow : ParameterSet → List ℕ → Type 0
 IsRow s xs = (length xs ≡ s .width) × (allWords p xs ≡ true)
 
--- The extractor, handed two leaves with their openings and two buffers, answers a level and writes two different rows that compress alike.
+-- Extraction of two leaves with their siblings, to two buffers, answers a level and writes two different rows that compress alike.
 pub record Collides (s : ParameterSet) (two : Pair) (first second : List ℕ) : Type 0 where
   pub level : ℕ
   pub answered : extractReply p s two first second ≡ done (level ∷ [])
   pub differ : extractedFirst p s two first second ≢ extractedSecond p s two first second
   pub alike : compressUnder p s (extractedFirst p s two first second) ≡ compressUnder p s (extractedSecond p s two first second)
 
--- The level is one of the tree's, and the buffers hold "both rows, t words each".
+-- The level is one of the tree's, and each buffer holds a row.
 pub record Written (s : ParameterSet) (two : Pair) (first second : List ℕ) : Type 0 where
   pub below : levelOf (collision p s two) < s .height
   pub rows : IsRow s (extractedFirst p s two first second) × IsRow s (extractedSecond p s two first second)
 
--- It does so wherever rows 1 to 12 are past and two different leaves are both accepted: where neither 14 nor 15 applies.
+-- So it is wherever none of refusals 1 to 12 applies and two different leaves are both accepted, so that neither 14 nor 15 does (Rules 5.8).
 abbrev pub Extracting : Type 0
 Extracting =
     (s : ParameterSet) (two : Pair) (first second : List ℕ) → firstRefusal (pairRefusals p s two first second) ≡ 0

@@ -1,4 +1,4 @@
-// The extractor of a collision from two leaves that are both accepted at one place, under a set that is handed in.
+// The extraction of a collision from two leaves that are both accepted at one place, under a set that is handed in.
 ghost use mathlib.Core.Path.{_≡_};
 ghost use mathlib.Core.Bool.{not, _&&_};
 ghost use mathlib.Core.List.{[], _∷_, _++_};
@@ -14,7 +14,7 @@ use parameters::ParameterSet;
 use tree_entries::Verdict;
 use trees::sets;
 
-// The level of the collision, or the number of the table's row that turns the call back.
+// The level of the collision, or the number of the refusal.
 pub enum Extraction {
     Level(u64),
     Refused(u8),
@@ -84,7 +84,7 @@ fn pair_is_words(
     parameters::all_words(second_siblings)
 }
 
-// The first of rows 1 to 12 that applies, or 0.
+// The number of the first of refusals 1 to 12 that applies, or 0.
 fn refusal_of_pair(
     set: ParameterSet,
     root: &[u64],
@@ -125,7 +125,7 @@ fn refusal_of_pair(
     0
 }
 
-// The row of an opening that rows 1 to 12 let through: 14 where its verdict is not that it is accepted, or 0.
+// 14 where an opening that passes refusals 1 to 12 is not accepted, or 0.
 fn refusal_of_opening(
     set: ParameterSet,
     root: &[u64],
@@ -143,7 +143,7 @@ fn refusal_of_opening(
     }
 }
 
-// The first row that turns back a pair of openings, or 0.
+// The number of the first refusal of a pair of openings, or 0.
 fn refusal_of_extract(
     set: ParameterSet,
     root: &[u64],

@@ -1,4 +1,4 @@
--- What the field's entries reply, for any numbers.
+-- What the field's entries reply, for any numbers (Rules 1, 7.1, 8.8).
 use mathlib.Core.List.{List, [], _∷_}
 use Prim.Native.Nat.{ℕ, suc, _%_}
 use lib.Dec.{eqb}
@@ -7,7 +7,7 @@ use Rattle.refusals.specs.Table.{Reply, refused, done, reply, refusal, notWords
 use Rattle.field_entries.specs.declared.Answer.{Answer}
 use Rattle.field_entries.specs.declared.Answer.the-variants.{Word, Refused}
 
--- The number and the values of each case of the answer.
+-- The reply that each case of the answer is (Rules 8.5).
 unfoldable pub replyOf : Answer → Reply
 replyOf (Word w) = done (w ∷ [])
 replyOf (Refused n) = refused n
@@ -21,11 +21,11 @@ differenceReply p a b = reply (notWords p (a ∷ b ∷ []) ∷ []) (sub p a b �
 unfoldable pub productReply : ℕ → ℕ → ℕ → Reply
 productReply p a b = reply (notWords p (a ∷ b ∷ []) ∷ []) (mul p a b ∷ [])
 
--- "a power's exponent is free"
+-- The exponent is any number (Rules 1.4, 8.4).
 unfoldable pub powerReply : ℕ → ℕ → ℕ → Reply
 powerReply p a e = reply (notWords p (a ∷ []) ∷ []) (pow p a e ∷ [])
 
--- "13 | inverse of 0"
+-- The inverse of 0 is refused with 13 (Rules 1.5).
 unfoldable pub inverseReply : ℕ → ℕ → Reply
 inverseReply p x = reply (notWords p (x ∷ []) ∷ refusal 13 (eqb x 0) ∷ []) (inverse p x ∷ [])
 

@@ -4,7 +4,7 @@ ghost use Rattle.modular.specs.Goldilocks.{p};
 ghost use Rattle.field_entries.specs.Arithmetic.{replyOf, sumReply, differenceReply, productReply, powerReply, inverseReply, seventhRootReply};
 use field::P;
 
-// A word, or the number of the table's row that turns the call back.
+// A word, or the number of the refusal.
 pub enum Answer {
     Word(u64),
     Refused(u8),

@@ -1,4 +1,4 @@
--- The number 0 is returned for an opening that is accepted, and for nothing else: a refusal's number is a row's, and every row's is above 0.
+-- The number 0 is returned for an opening that is accepted, and for nothing else: the number of every refusal is above 0.
 use mathlib.Core.Path.{_≡_, refl, sym, ap, _∙_}
 use mathlib.Core.Logic.{_≢_}
 use mathlib.Core.Bool.{Bool, true, false, cond}

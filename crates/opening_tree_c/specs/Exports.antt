@@ -1,5 +1,5 @@
--- What the functions for C do with a set that is handed in as five numbers and two lists: a row from 1 to 6 turns these down, with every
--- buffer as it was, or the entry is called with the set that holds them. `v` is `holding` of what is handed in.
+-- What the functions for C do with a set that is handed in as five numbers and two lists (Rules 2.8): these are refused with 1 to 6, with
+-- every buffer as it was, or the entry is called with the set that has them. `v` is `holding` of what is handed in.
 use mathlib.Core.Bool.{cond}
 use mathlib.Core.List.{List}
 use Prim.Native.Nat.{ℕ}

@@ -1,4 +1,4 @@
--- What is claimed of the number that `opening_tree_verify` returns: it is 0 where the opening is accepted, and nowhere else.
+-- What is claimed of the number that `opening_tree_verify` returns: it is 0 where the opening is accepted, and nowhere else (Rules 8.6).
 use mathlib.Core.Path.{_≡_}
 use mathlib.Core.Bool.{true}
 use mathlib.Core.List.{List}
@@ -12,7 +12,7 @@ use Rattle.tree_entries.specs.Trees.{verifyRefusals, verifyReply}
 use Rattle.replies.specs.Replies.{verdictNumber}
 use Rattle.opening_tree_c.specs.Exports.{through}
 
--- No row applies to the set, the root, the place, the leaf and the siblings, and the leaf ends in the root.
+-- Nothing refuses the set, the root, the place, the leaf and the siblings, and the leaf's path ends in the root.
 pub record Yes (v : Held) (top : List ℕ) (q : ℕ) (leaf siblings : List ℕ) : Type 0 where
   pub held : v .number ≡ 0
   pub unrefused : firstRefusal (verifyRefusals p (v .set) top q leaf siblings) ≡ 0

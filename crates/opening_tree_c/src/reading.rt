@@ -1,4 +1,4 @@
-// The opening reader, for C: a level's part is copied to a lent buffer.
+// The opening reader, for C: a level's part is copied to a buffer.
 ghost use mathlib.Core.Path.{_≡_};
 ghost use Rattle.modular.specs.Goldilocks.{p};
 ghost use Rattle.parameters.specs.ParameterSet.{holding};

@@ -8,7 +8,7 @@ ghost use Rattle.state_entries.specs.Permutation.{stateReply, permuted, unpermu
 ghost use Rattle.replies.specs.Replies.{numberOf};
 ghost use Rattle.opening_tree_c.specs.Exports.{through, leaving};
 
-// The first of rows 1 to 9 that turns a set down, or 0.
+// The number of the first of refusals 1 to 9 that applies to a set, or 0.
 #[no_mangle]
 pub extern "C" fn opening_tree_validate(
     width: u64,

@@ -57,7 +57,7 @@ pub fn path_node(
     own
 }
 
-// Whether the leaf, put back among its siblings at each level, ends in the root.
+// Whether the leaf's path ends in the root.
 pub fn accepts(
     d: Dimensions,
     diagonal: &[u64; 12],

@@ -1,4 +1,5 @@
--- An array of records in a local is its elements, side by side. Its first n are lent for a call, to be read; once the call's lifetime is over the elements are back, and the local is room again.
+-- An array of records in a local is its elements, side by side. Its first n are borrowed for a call, to be read; once the call's lifetime is
+-- over the elements are back, and the local is room again.
 use mathlib.Core.Path.{refl}
 use mathlib.Core.List.{List, [], _∷_}
 use Prim.Native.Nat.{ℕ}
@@ -61,7 +62,7 @@ module _ {M : Type 1} (𝓤 : URA M) (H : Heap 𝓤) (A : Atoms 𝓤) (W : Given
       spelt ! (Array R N) (Is (Array R N)) (shows 𝓤 H A (Array R N)) (array-vals (LL.vals T.the-type T′.the-laws)) (array-tells R (LL.vals T.the-type T′.the-laws) (LL.tells T.the-type T′.the-laws) N) fullShare rs vs b 0 $
       use1 W (‵ (fat fullShare arr b 0 (av rs))) (W .laws .raw-at fullShare arr b 0 (av rs)) $ forget ! 0 refl $ keep ! (0 ∷ []) $ done !)
 
--- the first n records, lent under a name
+-- the first n records, borrowed under a name
 abbrev pub firsts : ℕ → List Record → ℕ → GName → RefT (List Record)
 firsts n rs b δ = record { ptr = (b, 0); name = δ; now = take n rs }
 

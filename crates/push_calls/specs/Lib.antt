@@ -1,2 +1,2 @@
--- The first records of a flat list of numbers.
+-- The first records of a list of numbers.
 pub mod Listed

@@ -1,4 +1,4 @@
--- The first records of a flat list of numbers.
+-- The first records of a list of numbers (Rules 5.6).
 use mathlib.Core.List.{List}
 use Prim.Native.Nat.{ℕ, _/_, min}
 use lib.ListN.{length}

@@ -1,4 +1,4 @@
-// Pushes for callers that cannot lend a list of records: the records are passed by value, or as numbers.
+// Pushes for callers that have no slice of records: the records are passed by value, or as numbers.
 ghost use mathlib.Core.Path.{_≡_};
 ghost use Prim.Native.Nat.{_≤_, _/_, min};
 ghost use lib.ListN.{length, take};

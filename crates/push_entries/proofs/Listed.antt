@@ -28,7 +28,7 @@ use Rattle.pushes.specs.Listed.{listed, wholeRecords}
 use Rattle.push_entries.specs.Listed.{listedRefusals, listedReply, listedPushed}
 use Rattle.pushes.proofs.Listed.{listed-count}
 
--- the row where a record is not whole: never 0
+-- the number that refuses records that are not whole: never 0
 abbrev partRefusal : ParameterSet → ℕ
 partRefusal s = firstRefusal (setRefusals p s ++ (refusal 10 true ∷ []))
 

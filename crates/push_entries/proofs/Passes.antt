@@ -53,7 +53,7 @@ words-of-both (x ∷ xs) ys = ap (λ (b : Bool). isWord p x && b) (words-of-both
 
 -- ---- one pass
 
--- a tally that no row before 11 turned back
+-- a tally that has no refusal before 11
 abbrev clear : ℕ → Bool → Bool → ℕ → Tally
 clear n b w m = record { number = 0; places = n; placed = b; words = w; made = m }
 
@@ -70,7 +70,7 @@ module _ (s : ParameterSet) where
       let words = and-assoc w y (allWords p ys) ∙ ap (λ (v : Bool). w && v) (sym (words-of-both (leafOf (s .«node_size») r) ys)) in
       test-all rs n (b && x) (w && y) m store ∙ (λ i. pass (clear n (places i) (words i) m) store)
 
-  -- a tally with a row stays
+  -- a tally with a refusal stays
   test-stays : (r : Record) (t : Tally) (store : List ℕ) → eqb (t .number) 0 ≡ false → stepOf p s 0 r (pass t store) ≡ pass t store
   unfolding stepOf testOf
   test-stays r t store e = rw e
@@ -116,7 +116,7 @@ module _ (s : ParameterSet) (xs : List ℕ) (ys : List Record) where
   abbrev late : List Refusal
   late = refusal 11 (not (placesBelow n ys)) ∷ notWords p (used ++ xs) ∷ []
 
-  -- after the first pass, by the first row of the early ones
+  -- after the first pass, by the first of the early refusals
   abbrev tested : ℕ → Tally
   tested zero = clear n (placesBelow n ys) (allWords p xs && allWords p used) 0
   tested (suc k) = begun (suc k) n (allWords p xs)
@@ -190,7 +190,7 @@ module _ (s : ParameterSet) (xs : List ℕ) (ys : List Record) where
   unfolding beginOf
   pushes = subst (λ (u : Pass). Right (eachOf p s 1 ys u)) (sym (first-pass (firstRefusal early))) (both-passes (firstRefusal early) refl)
 
-  -- where an early row applies, neither pass changes anything
+  -- where an early refusal applies, neither pass changes anything
   pub at-once : (t : Tally) → t ≡ beginOf p s xs (length ys) → t .number ≢ 0 → (refused (t .number) ≡ pushReply p s xs ys) × (xs ≡ pushed p s xs ys)
   unfolding mayWrite finishOf changedReply
   at-once t e o =

@@ -26,6 +26,6 @@ begun (suc r) n w = record { number = suc r; places = 0; placed = true; words = 
 unfoldable pub beginOf : ℕ → ParameterSet → List ℕ → ℕ → Tally
 beginOf p s store n = begun (firstRefusal (earlyRefusals p s store n)) (leafCount p s) (allWords p store)
 
--- the lowest row that applies, or the count
+-- the first refusal's number, or the count
 unfoldable pub finishOf : Tally → Changed
 finishOf t = cond (eqb (t .number) 0) (cond (t .placed) (cond (t .words) (Compressions (t .made)) (Refused 12)) (Refused 11)) (Refused (t .number))

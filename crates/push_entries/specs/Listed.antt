@@ -1,4 +1,4 @@
--- What a push of records that are handed in as numbers replies and leaves, for any set, store and list of numbers.
+-- What a push of records that are handed in as numbers replies and leaves, for any set, store and list of numbers (Rules 5.6, 8.8).
 use mathlib.Core.Bool.{not, _&&_}
 use mathlib.Core.List.{List, [], _∷_, _++_}
 use Prim.Native.Nat.{ℕ}

@@ -1,4 +1,4 @@
--- What a push replies and leaves, for any set, store and list of records.
+-- What a push replies and leaves, for any set, store and list of records (Rules 5.4, 5.5, 8.8).
 use mathlib.Core.Bool.{Bool, not, _&&_}
 use mathlib.Core.List.{List, [], _∷_, _++_}
 use Prim.Native.Nat.{ℕ, _^_}
@@ -13,11 +13,11 @@ use Rattle.tree_entries.specs.Trees.{has}
 use Rattle.pushes.specs.declared.record.Record.{Record}
 use Rattle.pushes.specs.Records.{changesOf, placesBelow, usedWords}
 
--- "a push of over 2^32 records"
+-- There are at most 2^32 records: more are refused with 10 (Rules 5.4).
 abbrev pub fewRecords : List Record → Bool
 fewRecords rs = leb (length rs) (2 ^ 32)
 
--- Row 12 covers "for a push every used record word and the whole store".
+-- Refusal 12 tests every record's leaf and the whole store (Rules 5.5).
 unfoldable pub pushRefusals : ℕ → ParameterSet → List ℕ → List Record → List Refusal
 pushRefusals p s store rs =
     setRefusals p s
@@ -25,7 +25,7 @@ pushRefusals p s store rs =
     ∷ refusal 11 (not (placesBelow (leafCount p s) rs))
     ∷ notWords p (usedWords (s .«node_size») rs ++ store) ∷ [])
 
--- "Records are done in order"; "hand the count on from call to call, and report the last"
+-- The replacements in the order of the records, under one count (Rules 5.4).
 abbrev pub pushing : ℕ → ParameterSet → List ℕ → List Record → Counted
 pushing p s store rs = push (treeOf p s) (s .height) (changesOf (s .«node_size») rs) store
 

@@ -11,7 +11,7 @@ use parameters::ParameterSet;
 use pushes::tally::Tally;
 use trees::sets;
 
-// A refusal by one of rows 1 to 10.
+// The beginning of a push that one of refusals 1 to 10 stops.
 fn turned_back(number: u8) -> Tally
     ensures { λ r. ⌜ r ≡ record { number = number; places = 0; placed = true; words = true; made = 0 } ⌝ }
 {
@@ -24,7 +24,7 @@ fn turned_back(number: u8) -> Tally
     }
 }
 
-// Rows 1 to 10, and row 12 of the store.
+// What a push begins with: the first of refusals 1 to 10 that applies, or the places and whether the store is words.
 pub fn begin(set: ParameterSet, store: &[u64], count: usize) -> Tally
     ensures { λ r. ⌜ r ≡ beginOf p set (now (store .entry)) count ⌝ }
 {
@@ -47,7 +47,7 @@ pub fn begin(set: ParameterSet, store: &[u64], count: usize) -> Tally
     }
 }
 
-// The row of a list that is not of whole records: the set's, or else 10.
+// The number that refuses a list that is not of whole records: the set's, or else 10.
 pub fn refusal_of_part(set: ParameterSet) -> u8
     ensures { λ r. ⌜ r ≡ firstRefusal (setRefusals p set ++ (refusal 10 true ∷ [])) ⌝ }
 {
@@ -58,7 +58,7 @@ pub fn refusal_of_part(set: ParameterSet) -> u8
     10
 }
 
-// The lowest row that applies, or the count.
+// The first refusal's number, or the count.
 pub fn finish(tally: Tally) -> Changed
     ensures { λ r. ⌜ r ≡ finishOf tally ⌝ }
 {

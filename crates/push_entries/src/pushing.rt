@@ -1,4 +1,4 @@
-// Pushes of a slice of records, and of records that are handed in as numbers, seven for each: for callers that cannot lend such a slice.
+// Pushes of a slice of records, and of records that are handed in as numbers, seven for each: for callers that have no such slice.
 ghost use mathlib.Core.Path.{_≡_};
 ghost use Rattle.modular.specs.Goldilocks.{p};
 ghost use Rattle.change_entries.specs.Replacement.{changedReply};

@@ -1,4 +1,4 @@
--- A `&mut [T]` that its holder lends on for one call, to be written (`&mut`) or read (`&`), and gets back when the call's lifetime is over.
+-- A `&mut [T]` that its holder reborrows for one call, to be written (`&mut`) or read (`&`), and has back when the call's lifetime is over.
 use mathlib.Core.Path.{_≡_, refl, sym, ap}
 use mathlib.Core.List.{List, [], _∷_}
 use Prim.Native.Nat.{ℕ}
@@ -23,11 +23,11 @@ module _ (R : RattleType) (κ κ′ : Lft) (q : Share) (γ : GName) (b o : ℕ) 
   abbrev named-list : GName → List (R .Denot) → RefT (List (R .Denot))
   named-list δ ys = record { ptr = (b, o); name = δ; now = ys }
 
-  -- what the holder keeps while the slice is lent to be written, under the name δ
+  -- what the holder keeps while the slice is borrowed to be written, under the name δ
   abbrev pub LentMut : GName → List (R .Denot) → Fml
   LentMut δ ys = keptF R κ q κ′ γ δ ys b o
 
-  -- and while it is lent to be read
+  -- and while it is borrowed to be read
   abbrev pub LentShr : List (R .Denot) → Fml
   LentShr ys = keptS R κ q κ′ γ ys b o
 

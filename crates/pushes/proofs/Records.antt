@@ -42,7 +42,7 @@ may-inside t q e =
 
 -- ---- a step
 
--- what a step keeps of a tally: the row, the places, and room for the count
+-- what a step keeps of a tally: the refusal's number, the places, and room for the count
 pub record Follows (t t′ : Tally) : Type 0 where
   pub number : t′ .number ≡ t .number
   pub places : t′ .places ≡ t .places

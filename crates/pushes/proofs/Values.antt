@@ -25,7 +25,7 @@ pv s = LL.val P.the-type P′.the-laws s
 abbrev pub word : Ty
 word = tyInt w64
 
--- `&mut [u64]` at a lifetime, and the lent records, at the signature's second
+-- `&mut [u64]` at a lifetime, and the slice of records, at the signature's second
 abbrev pub storeTy : Lifetime → Ty
 storeTy ℓ = sliceTy (tyRef ℓ mut word)
 

@@ -1,4 +1,4 @@
--- Replacement records, and the passes that a push makes over them.
+-- Replacement records (Rules 5.3, 5.6), and the passes that a push makes over them.
 pub mod Records
 pub mod Listed
 pub mod Passes

@@ -1,4 +1,4 @@
--- Records read from a list of numbers, seven for each: a place, then six words.
+-- Records read from a list of numbers, seven for each: a place, then six words (Rules 5.6).
 use mathlib.Core.Bool.{Bool}
 use mathlib.Core.List.{List, [], _∷_, _++_}
 use Prim.Native.Nat.{ℕ, zero, suc, _+_, _*_, _/_, _%_}
@@ -21,7 +21,7 @@ recordsOf ns (suc i) = recordsOf ns i ++ (recordAt ns i ∷ [])
 unfoldable pub listed : List ℕ → List Record
 listed ns = recordsOf ns (length ns / 7)
 
--- "10 | another lent slice not of its exact length": so is a list that is not of whole records
+-- The list is of whole records: any other is refused with 10 (Rules 5.6).
 unfoldable pub wholeRecords : List ℕ → Bool
 wholeRecords ns = eqb (length ns % 7) 0
 

@@ -25,7 +25,7 @@ pub record Pass : Type 0 where
 abbrev pub pass : Tally → List ℕ → Pass
 pass t store = record { tally = t; store = store }
 
--- a record tested, where no row before 11 applies
+-- a record tested, where no refusal before 11 applies
 unfoldable pub testOf : ℕ → ParameterSet → Record → Tally → Tally
 testOf p s r t =
     cond (eqb (t .number) 0)
@@ -63,7 +63,7 @@ unfoldable pub eachOf : ℕ → ParameterSet → ℕ → List Record → Pass �
 eachOf p s phase [] u = u
 eachOf p s phase (r ∷ rs) u = eachOf p s phase rs (stepOf p s phase r u)
 
--- What a pass over n records presumes: the set and the store's length passed where the tally has no row, and the count has room.
+-- What a pass over n records presumes: the set is accepted and the store has its length, unless the tally has a refusal; the count has room.
 pub record Going (p : ℕ) (s : ParameterSet) (store : List ℕ) (t : Tally) (n : ℕ) : Type 0 where
   pub accepted : t .number ≡ 0 → firstRefusal (setRefusals p s) ≡ 0
   pub whole : t .number ≡ 0 → length store ≡ storeWords p s

@@ -1,4 +1,4 @@
--- Replacement records.
+-- Replacement records (Rules 5.3).
 use mathlib.Core.Path.{_≡_}
 use mathlib.Core.Bool.{Bool, true, _&&_}
 use mathlib.Core.List.{List, [], _∷_, _++_}
@@ -8,7 +8,7 @@ use lib.ListN.{length, take}
 use Rattle.merkle.specs.Replacement.{Change}
 use Rattle.pushes.specs.declared.record.Record.{Record}
 
--- "each a place and six words, of which the first l are the leaf"
+-- the leaf of a record: its first l words
 abbrev pub leafOf : ℕ → Record → List ℕ
 leafOf l r = take l (r .words)
 
@@ -16,12 +16,12 @@ unfoldable pub changesOf : ℕ → List Record → List Change
 changesOf l [] = []
 changesOf l (r ∷ rs) = record { place = r .place; leaf = leafOf l r } ∷ changesOf l rs
 
--- "11 | a place not below k^h": every record's place is below n
+-- every record's place is below n: with n = k^h, what refusal 11 asks (Rules 8.1)
 unfoldable pub placesBelow : ℕ → List Record → Bool
 placesBelow n [] = true
 placesBelow n (r ∷ rs) = ltb (r .place) n && placesBelow n rs
 
--- "every used record word"
+-- the words of all leaves, those of the records that refusal 12 tests (Rules 8.8)
 unfoldable pub usedWords : ℕ → List Record → List ℕ
 usedWords l [] = []
 usedWords l (r ∷ rs) = leafOf l r ++ usedWords l rs

@@ -1,4 +1,4 @@
--- The row that a part holds is the first of its reading.
+-- The number that a part holds is that of the first refusal of its reading.
 use mathlib.Core.Path.{_≡_, refl, ap, _∙_}
 use mathlib.Core.Bool.{Bool, true, false, cond}
 use mathlib.Core.List.{List, [], _∷_}

@@ -1,4 +1,4 @@
--- What passes where no row turns back the copy of a level's part, and the part's length.
+-- What holds where the copy of a level's part is not refused, and the part's length.
 use mathlib.Core.Path.{_≡_, sym, ap, _∙_}
 use mathlib.Core.Bool.{not, _&&_}
 use mathlib.Core.List.{List}

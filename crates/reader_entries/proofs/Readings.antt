@@ -1,4 +1,4 @@
--- What passes where no row turns a reading back, where a level's part lies, and what a reading's row and words come to.
+-- What holds where a reading is not refused, where a level's part lies, and what a reading's number and words come to.
 use mathlib.Core.Path.{_≡_, refl, sym, ap, _∙_}
 use mathlib.Core.Logic.{_≢_}
 use mathlib.Core.Bool.{not, cond}
@@ -42,7 +42,7 @@ module _ (s : ParameterSet) (siblings : List ℕ) (j : ℕ) where
         level = ltb-true j (s .height) (not-false (ltb j (s .height)) (P .place));
       }
 
-  -- the words, where there is a row and where there is none
+  -- the words, where there is a refusal and where there is none
   pub no-words : firstRefusal (readRefusals p s siblings j) ≢ 0 → [] ≡ readWords p s siblings j
   unfolding readReply readWords
   no-words o = refused-equations (readRefusals p s siblings j) (siblingsAt (treeOf p s) siblings j) [] (siblingsAt (treeOf p s) siblings j) _ refl o .1
@@ -61,7 +61,7 @@ module _ (s : ParameterSet) (siblings : List ℕ) (j : ℕ) where
       let size : length siblings / s .height ≡ n = ap (λ (m : ℕ). m / s .height) (P .long) ∙ mul-div-cancel-left n {n = s .height} (omega (arith, P .level)) in
       rw (lt-ltb j (s .height) (P .level)) (ap (λ (m : ℕ). part (j * m) m siblings) size)
 
-  -- the row and the words together are the reply
+  -- the number and the words together are the reply
   pub replies : (n : ℕ) (words : List ℕ) → n ≡ firstRefusal (readRefusals p s siblings j) → words ≡ readWords p s siblings j → partReply n words ≡ readReply p s siblings j
   unfolding readReply partReply
   replies zero words e f =

@@ -1,4 +1,4 @@
--- What an opening reader copies to a lent buffer, for callers that cannot hold a view: the buffer has to be of the part's length.
+-- What `copy_level` replies and leaves (Rules 4.9, 8.8), for callers that cannot hold a view: the buffer has to be of the part's length.
 use mathlib.Core.Bool.{not, _&&_}
 use mathlib.Core.List.{List, [], _∷_, _++_}
 use Prim.Native.Nat.{ℕ}

@@ -1,3 +1,3 @@
--- What an opening reader hands back, and what it copies.
+-- What an opening reader gives, and what is copied of it.
 pub mod Readers
 pub mod Copies

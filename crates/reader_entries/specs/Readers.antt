@@ -1,4 +1,4 @@
--- What an opening reader hands back for one level, for any set, sibling words and level.
+-- What an opening reader gives for one level, for any set, sibling words and level (Rules 4.9, 8.8).
 use mathlib.Core.Bool.{not}
 use mathlib.Core.List.{List, [], _∷_, _++_}
 use Prim.Native.Nat.{ℕ, zero, suc}
@@ -10,7 +10,7 @@ use Rattle.merkle.specs.Openings.{siblingsAt}
 use Rattle.trees.specs.SetTrees.{treeOf, openingWords}
 use Rattle.tree_entries.specs.Trees.{has}
 
--- "11 | a reader's level not below h"; "the reader checks only the part it hands back", so refusal 12 is of that part alone.
+-- Refusal 11 asks that the level is below h; refusal 12 tests that level's part, and no other.
 unfoldable pub readRefusals : ℕ → ParameterSet → List ℕ → ℕ → List Refusal
 readRefusals p s siblings j =
     setRefusals p s
@@ -18,15 +18,15 @@ readRefusals p s siblings j =
     ∷ refusal 11 (not (ltb j (s .height)))
     ∷ notWords p (siblingsAt (treeOf p s) siblings j) ∷ [])
 
--- It "hands back the part for one level".
+-- The reply is the level's part (Rules 8.5).
 unfoldable pub readReply : ℕ → ParameterSet → List ℕ → ℕ → Reply
 readReply p s siblings j = reply (readRefusals p s siblings j) (siblingsAt (treeOf p s) siblings j)
 
--- The words handed back: none after a row's number.
+-- The words given: none after a refusal (Rules 4.9).
 unfoldable pub readWords : ℕ → ParameterSet → List ℕ → ℕ → List ℕ
 readWords p s siblings j = after (readReply p s siblings j) [] (siblingsAt (treeOf p s) siblings j)
 
--- A part's number and words, read: 0 and the words, or a row's number.
+-- The reply that a part's number and words are: with 0 the words, else a refusal.
 unfoldable pub partReply : ℕ → List ℕ → Reply
 partReply zero words = done words
 partReply (suc n) words = refused (suc n)

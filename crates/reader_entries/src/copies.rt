@@ -1,4 +1,4 @@
-// A level's part of sibling words copied to a lent buffer, for callers that cannot hold a view.
+// A level's part of sibling words copied to a buffer, for callers that cannot hold a view.
 ghost use mathlib.Core.Path.{_≡_};
 ghost use Rattle.modular.specs.Goldilocks.{p};
 ghost use Rattle.refusals.specs.Table.{firstRefusal};
@@ -8,7 +8,7 @@ use parameters::ParameterSet;
 use state_entries::Outcome;
 use trees::sets;
 
-// The first row that turns back a set, siblings, a level and a buffer to be written, or 0.
+// The number of the first refusal of a set, siblings, a level and a buffer to be written, or 0.
 fn refusal_of_copy(set: ParameterSet, siblings: &[u64], level: u64, buffer: &[u64]) -> u8
     ensures { λ r. ⌜ r ≡ firstRefusal (copyRefusals p set (now (siblings .entry)) level (now (buffer .entry))) ⌝ }
 {
@@ -32,7 +32,7 @@ fn refusal_of_copy(set: ParameterSet, siblings: &[u64], level: u64, buffer: &[u6
     0
 }
 
-// A level's part, copied to a lent buffer.
+// A level's part, copied to a buffer.
 pub fn copy_level(set: ParameterSet, siblings: &[u64], level: u64, buffer: &mut [u64]) -> Outcome
     ensures { λ r. ⌜ (outcomeReply r ≡ copyReply p set (now (siblings .entry)) level (now (buffer .entry)))
         × (now (buffer .exit) ≡ copied p set (now (siblings .entry)) level (now (buffer .entry))) ⌝ }

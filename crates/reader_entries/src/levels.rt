@@ -1,4 +1,4 @@
-// A level's part of sibling words, and the rows that turn a reading back.
+// A level's part of sibling words, and the refusals of a reading.
 ghost use mathlib.Core.Path.{_≡_};
 ghost use mathlib.Core.Bool.{cond};
 ghost use mathlib.Core.List.{[]};
@@ -12,7 +12,7 @@ ghost use Rattle.reader_entries.specs.Readers.{readRefusals, readWords};
 use parameters::ParameterSet;
 use trees::sets;
 
-// The first row that turns back a set, siblings and a level, or 0.
+// The number of the first refusal of a set, siblings and a level, or 0.
 pub fn refusal_of_read(set: ParameterSet, siblings: &[u64], level: u64) -> u8
     ensures { λ r. ⌜ r ≡ firstRefusal (readRefusals p set (now (siblings .entry)) level) ⌝ }
 {
@@ -44,7 +44,8 @@ fn equal_part<'a>(words: &'a [u64], count: u64, i: u64) -> &'a [u64]
     trees::openings::cut(words, size, i as usize)
 }
 
-// The words that a reading hands back, of the row that turns it back or 0: none after a row. An opening is h equal parts.
+// The words that a reading gives, by its refusal's number or 0: none after a refusal. An opening is h equal parts, so nothing is presumed of
+// the siblings' length.
 pub fn words_of_read<'a>(
     set: ParameterSet,
     siblings: &'a [u64],

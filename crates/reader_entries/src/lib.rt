@@ -1,4 +1,4 @@
-// Opening readers: views over the lent sibling words of an opening, and a level's part of them.
+// Opening readers: views over the sibling words of an opening, and a level's part of them.
 pub mod copies;
 mod levels;
 pub mod reading;

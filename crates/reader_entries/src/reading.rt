@@ -5,12 +5,12 @@ ghost use Rattle.reader_entries.specs.Readers.{partReply, readReply, rea
 use crate::levels;
 use parameters::ParameterSet;
 
-// A view over the lent sibling words of an opening.
+// A view over the sibling words of an opening.
 pub struct OpeningReader<'a> {
     pub siblings: &'a [u64],
 }
 
-// The number 0 and a level's words, or the number of the table's row that turns the call back and no words.
+// The number 0 and a level's words, or the number of the refusal and no words.
 // (An enum cannot hold a reference.)
 pub struct Part<'a> {
     pub words: &'a [u64],
@@ -33,7 +33,7 @@ pub fn part_at<'a>(set: ParameterSet, reader: OpeningReader<'a>, level: u64) -> 
     Part { words, number }
 }
 
-// The part for one level of lent sibling words, by a reader.
+// The part for one level of sibling words, by a reader.
 pub fn read_level<'a>(set: ParameterSet, siblings: &'a [u64], level: u64) -> Part<'a>
     ensures { λ r. ⌜ (partReply (r .number) (now (r .words)) ≡ readReply p set (now (siblings .entry)) level)
         × (now (r .words) ≡ readWords p set (now (siblings .entry)) level) ⌝ }

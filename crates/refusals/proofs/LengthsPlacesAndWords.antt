@@ -1,4 +1,4 @@
--- Rows that end in 10, for lengths, 11, for a place, and 12, for words.
+-- Lists of refusals that end in 10, for lengths, 11, for a place, and 12, for words.
 use mathlib.Core.Path.{_≡_, refl, sym, ap, _∙_}
 use mathlib.Core.Bool.{Bool, true, false, not, false≢true}
 use mathlib.Core.List.{List, [], _∷_, _++_}

@@ -1,4 +1,4 @@
--- A row that applies is the reply, and one that does not leaves it to the refusals below.
+-- A refusal that applies is the reply, and one that does not leaves it to those after it.
 use mathlib.Core.Path.{_≡_, refl, sym, ap, _∙_}
 use mathlib.Core.Logic.{_≢_}
 use mathlib.Core.Bool.{Bool, true, false, cond, not}
@@ -39,7 +39,7 @@ module _ (n : ℕ) (b : Bool) (refusals : List Refusal) where
   unfolding firstRefusal
   refusal-passes e = rw e
 
--- Rows one after another: a row of the front ones is the first of all, and where none of them applies the rest decide.
+-- One list after another: the first refusal of the front is the first of all, and where none of the front applies the rest decides.
 pub first-front : (refusals more : List Refusal) → firstRefusal refusals ≢ 0 → firstRefusal (refusals ++ more) ≡ firstRefusal refusals
 unfolding firstRefusal
 first-front [] more o = absurd (o refl)
@@ -64,7 +64,7 @@ first-back (r ∷ refusals) more (next h N) e = at (r .applies) (first-back refu
     at true ih e = absurd (omega arith)
     at false ih e = ih e
 
--- Where no row of a list applies none of its parts does.
+-- Where no refusal of a list applies, none of its parts has one that does.
 pub first-none : (refusals more : List Refusal) → Numbered refusals → firstRefusal (refusals ++ more) ≡ 0 → (firstRefusal refusals ≡ 0) × (firstRefusal more ≡ 0)
 unfolding firstRefusal
 first-none [] more N e = (refl, e)
@@ -80,7 +80,7 @@ unfolding firstRefusal
 refusal-none n true refusals e = absurd (omega arith)
 refusal-none n false refusals e = (refl, e)
 
--- The reply is the first row that applies, or the result.
+-- The reply is the first refusal that applies, or the result.
 pub reply-refused : (refusals : List Refusal) (result : List ℕ) → firstRefusal refusals ≢ 0 → reply refusals result ≡ refused (firstRefusal refusals)
 unfolding firstRefusal reply
 reply-refused [] result o = absurd (o refl)
@@ -114,7 +114,7 @@ pub written-after : {r : Reply} {result : List ℕ} (old new : List ℕ) → r �
 unfolding after
 written-after {r} {result} old new e = rw e
 
--- An entry's two equations, for its reply and its buffer: where it gives the first row's number, and where it does the work.
+-- An entry's two equations, for its reply and its buffer: where it gives the first refusal's number, and where it does the work.
 pub refused-equations : (refusals : List Refusal) (result old new : List ℕ) (n : ℕ) → n ≡ firstRefusal refusals → n ≢ 0
     → (refused n ≡ reply refusals result) × (old ≡ after (reply refusals result) old new)
 refused-equations refusals result old new n e o =

@@ -1,2 +1,2 @@
--- What an entry answers, as numbers.
+-- What an entry answers, as numbers (Rules 8.6).
 pub mod Replies

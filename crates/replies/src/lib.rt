@@ -1,4 +1,4 @@
-// What an entry answers, as numbers: the one that is returned, and the one that is lent for a result.
+// What an entry answers, as numbers: the one that is returned, and the one that a result is written to.
 ghost use mathlib.Core.Path.{_≡_};
 ghost use Rattle.field_entries.specs.Arithmetic.{replyOf};
 ghost use Rattle.state_entries.specs.Permutation.{outcomeReply};

@@ -1,4 +1,4 @@
--- A set and a state that no row turns back.
+-- A set and a state that are not refused.
 use mathlib.Core.Path.{_≡_}
 use mathlib.Core.Bool.{not, true, _&&_}
 use mathlib.Core.List.{List}

@@ -1,3 +1,3 @@
--- What passes where no row applies, and what is claimed of the entries together.
+-- What holds where nothing is refused, and what is claimed of the entries together.
 mod AcceptedStates
 pub mod Statements

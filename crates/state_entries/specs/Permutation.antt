@@ -1,4 +1,4 @@
--- What the entries of the permutation reply and leave, for any set and any numbers.
+-- What the entries of the permutation reply and leave, for any set and any numbers (Rules 3, 4.1, 7.2, 8.8).
 use mathlib.Core.Bool.{not, _&&_}
 use mathlib.Core.List.{List, [], _∷_, _++_}
 use Prim.Native.Nat.{ℕ, _/_}
@@ -13,7 +13,7 @@ use Rattle.poseidon2.specs.Compression.{compress}
 use Rattle.state_entries.specs.declared.outcome.Outcome.{Outcome}
 use Rattle.state_entries.specs.declared.outcome.Outcome.the-variants.{Done, Refused}
 
--- The number and the values of each case of the outcome: the work's result is in a buffer.
+-- The reply that each case of the outcome is: the work's result is in a buffer (Rules 8.5).
 unfoldable pub outcomeReply : Outcome → Reply
 outcomeReply Done = done []
 outcomeReply (Refused n) = refused n
@@ -29,7 +29,7 @@ unfoldable pub compressUnder : ℕ → ParameterSet → List ℕ → List ℕ
 compressUnder p s xs =
     compress p (s .«node_size») (s .«full_rounds» / 2) (s .«partial_rounds») (s .diagonal) (s .constants) xs
 
--- The refusals of a state: the set's, then "10 | another lent slice not of its exact length", then 12.
+-- The refusals of a state: the set's, 10 if it is not t numbers, and 12 (Rules 8.8).
 unfoldable pub stateRefusals : ℕ → ParameterSet → List ℕ → List Refusal
 stateRefusals p s xs = setRefusals p s ++ (refusal 10 (not (eqb (length xs) (s .width))) ∷ notWords p xs ∷ [])
 

@@ -1,6 +1,6 @@
 // What an entry answers whose result is in a buffer.
 
-// The work is done, or the number of the table's row that turns the call back.
+// The work is done, or the number of the refusal.
 pub enum Outcome {
     Done,
     Refused(u8),

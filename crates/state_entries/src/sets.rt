@@ -1,4 +1,4 @@
-// Parameter sets: validation, and the row that turns down one that is handed in.
+// Parameter sets: validation, and the refusal of one that is handed in.
 ghost use mathlib.Core.Path.{_≡_};
 ghost use Rattle.modular.specs.Goldilocks.{p};
 ghost use Rattle.refusals.specs.Table.{firstRefusal};
@@ -6,7 +6,7 @@ ghost use Rattle.parameters.specs.ParameterSet.{validation, setRefusals};
 use parameters::ParameterSet;
 use parameters::Validation;
 
-// The set of these five numbers and two lists, or the first of rows 1 to 9 that applies.
+// The set of these five numbers and two lists, or the number of the first of refusals 1 to 9 that applies.
 pub fn validate(
     width: u64,
     node_size: u64,
@@ -29,7 +29,7 @@ pub fn validate(
     )
 }
 
-// The first of the rows that applies to a set that is handed in, or 0.
+// The number of the first refusal of a set that is handed in, or 0.
 pub fn refusal_of(set: ParameterSet) -> u8
     ensures { λ r. ⌜ r ≡ firstRefusal (setRefusals p set) ⌝ }
 {

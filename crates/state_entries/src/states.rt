@@ -7,7 +7,7 @@ use crate::outcome::Outcome;
 use crate::sets;
 use parameters::ParameterSet;
 
-// The first row that turns back a set and a state, or 0.
+// The number of the first refusal of a set and a state, or 0.
 fn refusal_of_state(set: ParameterSet, state: &[u64]) -> u8
     ensures { λ r. ⌜ r ≡ firstRefusal (stateRefusals p set (now (state .entry))) ⌝ }
 {
@@ -58,7 +58,7 @@ pub fn unpermute(set: ParameterSet, state: &mut [u64]) -> Outcome
     Outcome::Done
 }
 
-// The first row that turns back a set, a state and a node to be written, or 0.
+// The number of the first refusal of a set, a state and a node to be written, or 0.
 fn refusal_of_compression(set: ParameterSet, state: &[u64], node: &[u64]) -> u8
     ensures { λ r. ⌜ r ≡ firstRefusal (compressRefusals p set (now (state .entry)) (now (node .entry))) ⌝ }
 {

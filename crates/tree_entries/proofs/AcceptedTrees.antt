@@ -1,4 +1,4 @@
--- What passes where no row of an entry of the tree applies.
+-- What holds where an entry of the tree refuses nothing.
 use mathlib.Core.Path.{_≡_}
 use mathlib.Core.Bool.{true, not, _&&_}
 use mathlib.Core.List.{List}

@@ -1,2 +1,2 @@
--- What passes where no row applies.
+-- What holds where nothing is refused.
 pub mod AcceptedTrees

@@ -1,4 +1,4 @@
--- What the entries of the tree reply and leave, for any set, numbers and buffers.
+-- What the entries of the tree reply and leave, for any set, numbers and buffers (Rules 4, 7.4, 8.8).
 use mathlib.Core.Bool.{Bool, true, false, not, cond, _&&_}
 use mathlib.Core.List.{List, [], _∷_, _++_}
 use Prim.Native.Nat.{ℕ}
@@ -17,11 +17,11 @@ use Rattle.tree_entries.specs.declared.sizing.Sizing.the-variants.{Refus
 use Rattle.tree_entries.specs.declared.verdict.Verdict.{Verdict}
 use Rattle.tree_entries.specs.declared.verdict.Verdict.the-variants.{Accepted, Rejected, Refused}
 
--- "10 | another lent slice not of its exact length"
+-- A list or buffer is of its exact length, which refusal 10 asks (Rules 8.1).
 abbrev pub has : List ℕ → ℕ → Bool
 has xs n = eqb (length xs) n
 
--- "11 | a place not below k^h"
+-- Refusal 11: the place is not below k^h (Rules 8.1).
 abbrev pub noPlace : ℕ → ParameterSet → ℕ → Refusal
 noPlace p s q = refusal 11 (not (ltb q (leafCount p s)))
 
@@ -33,7 +33,7 @@ sizingReply (NoSizes n) = refused n
 unfoldable pub sizesReply : ℕ → ParameterSet → Reply
 sizesReply p s = reply (setRefusals p s) (leafWords p s ∷ storeWords p s ∷ openingWords p s ∷ [])
 
--- Building "takes a lent list of the k^h leaves and a lent store and writes the whole store".
+-- Building takes the leaves and a buffer, and writes the whole store to it (Rules 4.5).
 unfoldable pub buildRefusals : ℕ → ParameterSet → List ℕ → List ℕ → List Refusal
 buildRefusals p s leaves store =
     setRefusals p s ++ (refusal 10 (not (has leaves (leafWords p s) && has store (storeWords p s))) ∷ notWords p leaves ∷ [])
@@ -44,7 +44,7 @@ buildReply p s leaves store = reply (buildRefusals p s leaves store) []
 unfoldable pub built : ℕ → ParameterSet → List ℕ → List ℕ → List ℕ
 built p s leaves store = after (buildReply p s leaves store) store (build (treeOf p s) (s .height) leaves)
 
--- "The root is its last l words"; refusal 12 is of these.
+-- The root is the last l words of the store, and refusal 12 tests these alone (Rules 4.6).
 unfoldable pub rootRefusals : ℕ → ParameterSet → List ℕ → List ℕ → List Refusal
 rootRefusals p s store node =
     setRefusals p s
@@ -56,7 +56,7 @@ rootReply p s store node = reply (rootRefusals p s store node) []
 unfoldable pub rooted : ℕ → ParameterSet → List ℕ → List ℕ → List ℕ
 rooted p s store node = after (rootReply p s store node) node (root (treeOf p s) store)
 
--- "The storeless root reads leaves only."
+-- The storeless root, from the leaves (Rules 7.4).
 unfoldable pub storelessRefusals : ℕ → ParameterSet → List ℕ → List ℕ → List Refusal
 storelessRefusals p s leaves node =
     setRefusals p s ++ (refusal 10 (not (has leaves (leafWords p s) && has node (s .«node_size»))) ∷ notWords p leaves ∷ [])
@@ -68,7 +68,7 @@ unfoldable pub storelessRooted : ℕ → ParameterSet → List ℕ → List ℕ 
 storelessRooted p s leaves node =
     after (storelessReply p s leaves node) node (storelessRoot (treeOf p s) (s .height) leaves)
 
--- "The opening of place q"; refusal 12 covers "for an opening the siblings copied".
+-- The opening of a place (Rules 4.7). Refusal 12 tests the siblings that are copied, and nothing else of the store.
 unfoldable pub openRefusals : ℕ → ParameterSet → List ℕ → ℕ → List ℕ → List Refusal
 openRefusals p s store q siblings =
     setRefusals p s
@@ -82,7 +82,7 @@ openReply p s store q siblings = reply (openRefusals p s store q siblings) []
 unfoldable pub opened : ℕ → ParameterSet → List ℕ → ℕ → List ℕ → List ℕ
 opened p s store q siblings = after (openReply p s store q siblings) siblings (opening (treeOf p s) (s .height) q store)
 
--- "A verdict is accepted, rejected, or refused with its number": 1 stands for accepted and 0 for rejected.
+-- The reply that each verdict is: 1 for accepted, 0 for rejected (Rules 4.11, 8.5).
 unfoldable pub verdictReply : Verdict → Reply
 verdictReply Accepted = done (1 ∷ [])
 verdictReply Rejected = done (0 ∷ [])
@@ -95,7 +95,7 @@ verifyRefusals p s top q leaf siblings =
     ∷ noPlace p s q
     ∷ notWords p (top ++ (leaf ++ siblings)) ∷ [])
 
--- "Accepted: the leaf put back among its siblings at each level ends in the given root."
+-- Accepted if the leaf's path ends in the root (Rules 4.11).
 unfoldable pub verifyReply : ℕ → ParameterSet → List ℕ → ℕ → List ℕ → List ℕ → Reply
 verifyReply p s top q leaf siblings =
     reply (verifyRefusals p s top q leaf siblings) (cond (accepts (treeOf p s) (s .height) top q leaf siblings) 1 0 ∷ [])

@@ -8,7 +8,7 @@ use parameters::ParameterSet;
 use state_entries::Outcome;
 use trees::sets;
 
-// The first row that turns back a set, leaves and a store to be written, or 0.
+// The number of the first refusal of a set, leaves and a store to be written, or 0.
 fn refusal_of_build(set: ParameterSet, leaves: &[u64], store: &[u64]) -> u8
     ensures { λ r. ⌜ r ≡ firstRefusal (buildRefusals p set (now (leaves .entry)) (now (store .entry))) ⌝ }
 {
@@ -44,7 +44,7 @@ pub fn build(set: ParameterSet, leaves: &[u64], store: &mut [u64]) -> Outcome
     Outcome::Done
 }
 
-// The first row that turns back a set, a store and a node to be written, or 0.
+// The number of the first refusal of a set, a store and a node to be written, or 0.
 fn refusal_of_root(set: ParameterSet, store: &[u64], node: &[u64]) -> u8
     ensures { λ r. ⌜ r ≡ firstRefusal (rootRefusals p set (now (store .entry)) (now (node .entry))) ⌝ }
 {
@@ -78,7 +78,7 @@ pub fn root(set: ParameterSet, store: &[u64], node: &mut [u64]) -> Outcome
     Outcome::Done
 }
 
-// The first row that turns back a set, leaves and a node to be written, or 0.
+// The number of the first refusal of a set, leaves and a node to be written, or 0.
 fn refusal_of_storeless(set: ParameterSet, leaves: &[u64], node: &[u64]) -> u8
     ensures { λ r. ⌜ r ≡ firstRefusal (storelessRefusals p set (now (leaves .entry)) (now (node .entry))) ⌝ }
 {

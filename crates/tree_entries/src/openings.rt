@@ -10,7 +10,7 @@ use parameters::ParameterSet;
 use state_entries::Outcome;
 use trees::sets;
 
-// The first row that turns back a set, a store, a place and siblings to be written, or 0.
+// The number of the first refusal of a set, a store, a place and siblings to be written, or 0.
 fn refusal_of_open(set: ParameterSet, store: &[u64], place: u64, siblings: &[u64]) -> u8
     ensures { λ r. ⌜ r ≡ firstRefusal (openRefusals p set (now (store .entry)) place (now (siblings .entry))) ⌝ }
 {
@@ -48,7 +48,7 @@ pub fn open(set: ParameterSet, store: &[u64], place: u64, siblings: &mut [u64]) 
     Outcome::Done
 }
 
-// Row 12 of three lists, or 0.
+// 12 where a number of three lists is not a word, or 0.
 fn refusal_of_words(root: &[u64], leaf: &[u64], siblings: &[u64]) -> u8
     ensures { λ r. ⌜ r ≡ firstRefusal (notWords p (now (root .entry) ++ (now (leaf .entry) ++ now (siblings .entry))) ∷ []) ⌝ }
 {
@@ -64,7 +64,7 @@ fn refusal_of_words(root: &[u64], leaf: &[u64], siblings: &[u64]) -> u8
     0
 }
 
-// The first row that turns back a set, a root, a place, a leaf and siblings, or 0.
+// The number of the first refusal of a set, a root, a place, a leaf and siblings, or 0.
 fn refusal_of_verify(
     set: ParameterSet,
     root: &[u64],

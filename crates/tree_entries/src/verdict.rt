@@ -1,6 +1,6 @@
 // What the verification of an opening answers.
 
-// The opening is accepted or rejected, or the number of the table's row that turns the call back.
+// The opening is accepted or rejected, or the number of the refusal.
 pub enum Verdict {
     Accepted,
     Rejected,

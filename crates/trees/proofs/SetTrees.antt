@@ -37,7 +37,7 @@ module _ (s : ParameterSet) (none : firstRefusal (setRefusals p s) ≡ 0) where
   pub size-fits : s .«node_size» ≤ s .width
   size-fits = sets.node-size-fits p s (lit< tt) none
 
-  -- "arity k = t / l"
+  -- l divides t, so the arity times l is t
   pub width-is : s .width / s .«node_size» * s .«node_size» ≡ s .width
   width-is = omega (arith, div-add-mod' (s .width) (s .«node_size»), numbers .nodeSize .divides)
 

@@ -68,7 +68,7 @@ module _ {q : ℕ} (pos : 0 < q) (k l half rp : ℕ) (D C : List ℕ) (w : Width
         words = λ row e _. words-by q (shapeOf q k l half rp D C .compress row) (λ i _. sizes pos .compression (k * l) l half rp D C row w e (one-node k l w s) .words .at i);
       }
 
--- "Node size l divides t": the width of the shape of t and l is t
+-- where l divides t, the width of the shape of t and l is t
 pub whole-width : (t l : ℕ) → t % l ≡ 0 → t / l * l ≡ t
 whole-width t l e = omega (arith, div-add-mod' t l)
 

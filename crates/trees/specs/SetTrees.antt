@@ -5,7 +5,7 @@ use Rattle.merkle.specs.Levels.{Shape, size}
 use Rattle.trees.specs.Shapes.{shape}
 use Rattle.trees.specs.declared.Dimensions.{Dimensions}
 
--- The tree of a set: arity k = t / l, its rows compressed under the set.
+-- The tree of a set: arity k = t / l, its rows compressed under the set (Rules 2.2, 4.1).
 abbrev pub treeOf : ℕ → ParameterSet → Shape
 treeOf p s = shape p (s .width) (s .«node_size») (s .«full_rounds» / 2) (s .«partial_rounds») (s .diagonal) (s .constants)
 
@@ -19,7 +19,7 @@ dimensionsOf s = record {
   «partial_rounds» = s .«partial_rounds»;
 }
 
--- k^h leaves, and the words of the leaves, the store and an opening
+-- k^h leaves, and the words of the leaves, the store and an opening (Rules 4.2, 4.4, 4.7)
 abbrev pub leafCount : ℕ → ParameterSet → ℕ
 leafCount p s = treeOf p s .arity ^ s .height
 
@@ -32,6 +32,6 @@ storeWords p s = size (treeOf p s) (s .height)
 abbrev pub openingWords : ℕ → ParameterSet → ℕ
 openingWords p s = s .height * ((treeOf p s .arity - 1) * s .«node_size»)
 
--- a level's part of an opening
+-- the words of a level's part of an opening (Rules 4.7)
 abbrev pub partWords : ℕ → ParameterSet → ℕ
 partWords p s = (treeOf p s .arity - 1) * s .«node_size»

@@ -13,7 +13,7 @@ use Rattle.trees.specs.declared.Dimensions.{Dimensions}
 abbrev pub shapeOf : ℕ → ℕ → ℕ → ℕ → ℕ → List ℕ → List ℕ → Shape
 shapeOf q k l half rp D C = record { arity = k; nodeSize = l; compress = compress q l half rp D C }
 
--- of width t: "arity k = t / l"
+-- of width t: the arity is t / l (Rules 2.2)
 abbrev pub shape : ℕ → ℕ → ℕ → ℕ → ℕ → List ℕ → List ℕ → Shape
 shape q t l half rp D C = shapeOf q (t / l) l half rp D C
 
@@ -25,8 +25,8 @@ dimensions t l h rf rp = record { arity = t / l; «node_size» = l; height = h; 
 abbrev pub tree : Dimensions → List ℕ → List ℕ → Shape
 tree d D C = shapeOf p (d .arity) (d .«node_size») (d .half) (d .«partial_rounds») D C
 
--- What the table's rows 1 to 5 leave of a set's numbers: the width t = k × l, "arity at least 2", "height h is 0 to 32 with k^h at most
--- 2^32", "R_F even, 2 to 12; R_P 0 to 64".
+-- What refusals 1 to 5 leave of a set's numbers (Rules 2.1): the width t = k × l, two nodes or more to a row, at most 32 levels above the
+-- leaves and at most 2^32 leaves, an even number of full rounds from 2 to 12, and at most 64 partial rounds.
 pub record ValidNumbers (d : Dimensions) : Type 0 where
   pub width : Width (d .arity * d .«node_size»)
   pub several : 2 ≤ d .arity
@@ -36,7 +36,7 @@ pub record ValidNumbers (d : Dimensions) : Type 0 where
   pub fullRounds : d .half ≤ 6
   pub partialRounds : d .«partial_rounds» ≤ 64
 
--- And row 7 of its constants: the used ones are words.
+-- And what refusal 7 leaves of its constants: the used ones are words.
 pub record ValidSet (d : Dimensions) (C : List ℕ) : Type 0 where
   pub numbers : ValidNumbers d
   pub words : Words p (take (d .arity * d .«node_size» * (2 * d .half) + d .«partial_rounds») C)

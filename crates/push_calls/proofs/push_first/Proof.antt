@@ -1,4 +1,5 @@
--- A walk of `push_first`: the array, copied to a local, is lent up to the count for a lifetime of the call (`Firsts`), and `push` is called. The store is given up to it for good.
+-- A walk of `push_first`: the array, copied to a local, is borrowed up to the count for a lifetime of the call (`Firsts`), and `push` is
+-- called. The store is given up to it for good.
 use mathlib.Core.Path.{_≡_, refl, sym, subst}
 use mathlib.Core.List.{List, [], _∷_}
 use Prim.Native.Nat.{ℕ, _^_, _≤_, _<_}
@@ -107,7 +108,7 @@ module _ {M : Type 1} (𝓤 : URA M) (H : Heap 𝓤) (A : Atoms 𝓤) (mem : Mem
 abbrev Arg : Type 0
 Arg = ParameterSet × (RefT (List ℕ) × (List Record × (ℕ × Unit {0})))
 
--- The store xs is at (b, o), lent for κ.
+-- The store xs is at (b, o), borrowed for κ.
 module _ {M : Type 1} (𝓤 : URA M) (H : Heap 𝓤) (A : Atoms 𝓤) (W : Given 𝓤 H A) (at-mem : Memory → SProp 𝓤) (run : Routine → Fun 𝓤) (κ : Lft) (q : Share)
     (b o : ℕ) (γ : GName) (xs : List ℕ) (s : ParameterSet) (rs : List Record) (n : ℕ)
     (room : Room u64 (length xs)) (is-s : Is P.the-row s (pv s ∷ [])) (len : length rs ≡ 16) (fits-n : n < 2 ^ 64) (few : n ≤ 16) where
@@ -196,7 +197,7 @@ module _ {M : Type 1} (𝓤 : URA M) (H : Heap 𝓤) (A : Atoms 𝓤) (W : Given
           move ! (11 ∷ 1 ∷ []) $ use2 W (‵ (Elements 16 rs l₅)) (apart 𝓤 H A W 16 rs l₅) $ rewrite ! 0 (λ (k : ℕ). ‵ (Elements k rs l₅)) (sym len) refl $
           lft-new ! tt (λ ν. move ! (1 ∷ 0 ∷ []) $
           use2 W (later (some (λ (δ : GName). ‵ (ShrSlice (named 1) (ν ∷ []) R .own (lent l₅ δ) (lv l₅ ∷ [])) ⊛ ‵ (flent (ν ∷ []) (Elements (length rs) rs l₅)) ⊛ ‵ (flft (ν ∷ []) fullShare)))) (lends-firsts 𝓤 H A W (named 1) (ν ∷ []) n rs l₅ room-rs) $ await ! tt $ pick ! (λ δ. split ! $ move ! (1 ∷ []) $ split ! $
-          -- [the way back; the call's token; the lent records; the store; its token; local 9; …, of local 5 its end alone]
+          -- [the way back; the call's token; the borrowed records; the store; its token; local 9; …, of local 5 its end alone]
           move ! (4 ∷ 1 ∷ 3 ∷ 2 ∷ []) $ join ! $ use3 W (raw (Push 𝓤 H A at-mem run .pre (to ν l₅ δ))) (goes ν l₅ δ) $
           calls-at ! fm (Push 𝓤 H A at-mem run) known (to ν l₅ δ) (and-then ! (load ! (from ! (stop !)) (look ! 17 refl)) (and-then ! (load ! (from ! (stop !)) (look ! 6 refl)) (and-then ! (load ! (from ! (stop !)) (look ! 2 refl)) (no-more !)))) (λ w.
           use1 W (later (some (λ (r : Changed). ((‵ (flft κ q) ⊛ ‵ (flft (ν ∷ []) fullShare) ⊛ ‵ ftrue) ⊛ ‵ (S.the-row .own r (w ∷ []))) ⊛ raw (ensured 𝓤 H A push.ended (push.clauses 𝓤 H A at-mem run) (κ, (ν ∷ [], tt)) (s, (st, (lent l₅ δ, tt))) tt r)))) (id⊢ 𝓤 _) $ await ! tt $ pick ! (λ r.

@@ -1,4 +1,4 @@
--- A walk of `level_refusal`: `read_level` is known by its contract alone, and of its part the row is taken.
+-- A walk of `level_refusal`: `read_level` is known by its contract alone, and of its part the number is taken.
 use mathlib.Core.Path.{_≡_, refl, ap, subst}
 use mathlib.Core.List.{List, [], _∷_}
 use Prim.Native.Nat.{ℕ, _^_, _<_}

@@ -1,5 +1,6 @@
 -- A walk of `push`, which is straight: `begin`, `each` twice, `finish`, known by their contracts alone. What they come to together is in `Passes`.
--- The store is lent on to `begin` to be read and to each pass to be written, for a lifetime of each call (`Lending`); a copy of the records goes to each pass.
+-- The store is reborrowed for `begin` to be read and for each pass to be written, for a lifetime of each call (`Lending`); a copy of the
+-- slice of records goes to each pass.
 -- The body is cut after the calls: `rest-5` goes on after `begin`, `rest-8` after the first pass, `rest-11` after the second.
 use mathlib.Core.Path.{_≡_, refl, sym, ap, subst, _∙_}
 use mathlib.Core.List.{List, [], _∷_}
@@ -114,7 +115,7 @@ module _ {M : Type 1} (𝓤 : URA M) (H : Heap 𝓤) (A : Atoms 𝓤) (mem : Mem
 abbrev Arg : Type 0
 Arg = ParameterSet × (RefT (List ℕ) × (RefT (List Record) × Unit {0}))
 
--- The store xs is at (b, o), lent for κ; the records ys at (b′, o′), lent for κ′.
+-- The store xs is at (b, o), borrowed for κ; the records ys at (b′, o′), borrowed for κ′.
 module _ {M : Type 1} (𝓤 : URA M) (H : Heap 𝓤) (A : Atoms 𝓤) (W : Given 𝓤 H A) (at-mem : Memory → SProp 𝓤) (run : Routine → Fun 𝓤) (κ κ′ : Lft) (q q′ : Share)
     (b o : ℕ) (γ : GName) (xs : List ℕ) (b′ o′ : ℕ) (γ′ : GName) (ys : List Record) (s : ParameterSet)
     (room : Room u64 (length xs)) (room′ : Room R (length ys)) (is-s : Is P.the-row s (pv s ∷ [])) where
@@ -284,7 +285,7 @@ module _ {M : Type 1} (𝓤 : URA M) (H : Heap 𝓤) (A : Atoms 𝓤) (W : Given
           assigns ! (agg ! (and-then ! (load ! (from ! (stop !)) (look ! 12 refl)) (and-then ! (load ! (from ! (fld ! refl (stop !))) (look-in ! 22 (sub ! 1 refl (whole !)))) (no-more !)))) (from ! (stop !)) (init ! 10 refl (tt, (tt, (record { fits = room .0 }, tt)))) $
           assigns ! (of-opd ! (load ! (from ! (fld ! refl (stop !))) (look-in ! 20 (sub ! 1 refl (whole !))))) (from ! (stop !)) (init ! 8 refl (tt, record { fits = room′ .0 })) $
           move ! (28 ∷ []) $ use1 W (‵ Records ⊛ ‵ (flft κ′ q′) ⊛ ‵ (flft κ q) ⊛ ‵ (Store xs xs)) opened $ split ! $ move ! (1 ∷ []) $ split ! $ move ! (1 ∷ []) $ split ! $
-          -- [the store's token; the store; the records' token; the records; local 13; …]: the store is lent to be read
+          -- [the store's token; the store; the records' token; the records; local 13; …]: the store is borrowed to be read
           lft-new ! tt (λ ν. move ! (2 ∷ 1 ∷ []) $
           use2 W (later (some (λ (δ : GName). ‵ (ShrSlice (named 0) (ν ∷ []) u64 .own (st δ xs) (sv xs ∷ [])) ⊛ ‵ (LentShr u64 κ (ν ∷ []) q γ b o xs)))) (lends-shr u64 κ (ν ∷ []) q γ b o 𝓤 H A W (named 0) (named 0) xs) $ await ! tt $ pick ! (λ δ. split ! $
           move ! (2 ∷ 0 ∷ []) $ use2 W (raw (Begin 𝓤 H A at-mem run .pre (to-begin ν δ))) (goes-begin ν δ) $

@@ -17,7 +17,7 @@ begin-requires c κs = search needs
 same-length : tie.Need-same-length
 same-length c = search needs
 
--- an early row: nothing is read of the records
+-- an early refusal: nothing is read of the records
 returns-2 : tie.Need-returns-2
 unfolding changedReply
 returns-2 c =

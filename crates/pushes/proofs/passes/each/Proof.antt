@@ -1,5 +1,5 @@
 -- A walk of `each`: its loop by `loop-rule`, with all that it says of records in `Turns` (`Reached`). Of `step` it knows the contract alone.
--- In a turn a record is copied out of the lent list, and the store is lent on to `step` for a lifetime of that call (`Lending`).
+-- In a turn a record is copied out of the slice, and the store is reborrowed for `step`, for a lifetime of that call (`Lending`).
 use mathlib.Core.Path.{_≡_, refl, sym, ap, subst}
 use mathlib.Core.Bool.{Bool}
 use mathlib.Core.List.{List, [], _∷_}
@@ -109,7 +109,7 @@ module _ {M : Type 1} (𝓤 : URA M) (H : Heap 𝓤) (A : Atoms 𝓤) (mem : Mem
 abbrev Arg : Type 0
 Arg = ParameterSet × (RefT (List ℕ) × (RefT (List Record) × (ℕ × (Tally × Unit {0}))))
 
--- The store xs is at (b, o), lent for κ; the records ys at (b′, o′), lent for κ′.
+-- The store xs is at (b, o), borrowed for κ; the records ys at (b′, o′), borrowed for κ′.
 module _ {M : Type 1} (𝓤 : URA M) (H : Heap 𝓤) (A : Atoms 𝓤) (W : Given 𝓤 H A) (at-mem : Memory → SProp 𝓤) (run : Routine → Fun 𝓤) (κ κ′ : Lft) (q q′ : Share)
     (b o : ℕ) (γ : GName) (xs : List ℕ) (b′ o′ : ℕ) (γ′ : GName) (ys : List Record) (s : ParameterSet) (phase : ℕ) (t₀ : Tally)
     (room : Room u64 (length xs)) (room′ : Room R (length ys)) (is-s : Is P.the-row s (pv s ∷ [])) (fits-phase : phase < 2 ^ 64) (is-t₀ : Is Y.the-row t₀ (tv t₀ ∷ []))
@@ -161,7 +161,7 @@ module _ {M : Type 1} (𝓤 : URA M) (H : Heap 𝓤) (A : Atoms 𝓤) (W : Given
   abbrev ev : ℕ → Val
   ev i = LL.val T.the-type T′.the-laws (elem i)
 
-  -- a call of `step` on record i, the store lent for ν under the name δ
+  -- a call of `step` on record i, the store borrowed for ν under the name δ
   abbrev to : ℕ → GName → ℕ → Tally → List ℕ → One 𝓤 H A at-mem run .Ghost
   to ν δ i t zs = (((ν ∷ [], tt), (fullShare, tt), tt, (s, (st δ zs, (phase, (t, (elem i, tt))))), (pv s ∷ [], (sv zs ∷ [], (vint w64 phase ∷ [], (tv t ∷ [], (ev i ∷ [], tt)))))), tt)
 
@@ -227,7 +227,7 @@ module _ {M : Type 1} (𝓤 : URA M) (H : Heap 𝓤) (A : Atoms 𝓤) (W : Given
           assigns ! (of-opd ! (load ! (from ! (hop ! (look ! 15 refl) (stop !))) (look-raw ! 0 refl))) (from ! (stop !)) (init ! 16 refl (LL.lawful T.the-type T′.the-laws 𝓤 H A W .typed (elem i) _ g .0)) $
           elem-back ! R part ys i blank (ev i ∷ []) b′ o′ l $ shuts-slice ! tt R part ys b′ o′ $
           move ! (2 ∷ 1 ∷ []) $ fjoin ! $ move ! (2 ∷ 0 ∷ []) $ fjoin ! $
-          -- [the records; their token; the store; its token; local 6; …]: the store is lent on for a new lifetime ν
+          -- [the records; their token; the store; its token; local 6; …]: the store is reborrowed for a new lifetime ν
           lft-new ! tt (λ ν. move ! (3 ∷ 4 ∷ []) $
           use2 W (later (some (λ (δ : GName). ‵ (MutSlice (named 0) (ν ∷ []) u64 .own (st δ zs) (sv zs ∷ [])) ⊛ ‵ (LentMut u64 κ (ν ∷ []) q γ b o δ zs)))) (lends-mut u64 κ (ν ∷ []) q γ b o 𝓤 H A W (named 0) (named 0) zs) $ await ! tt $ pick ! (λ δ. split ! $
           move ! (2 ∷ 0 ∷ []) $ use2 W (raw (One 𝓤 H A at-mem run .pre (to ν δ i t zs))) (goes ν δ i t zs asked is-t g) $

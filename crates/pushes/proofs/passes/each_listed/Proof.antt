@@ -1,4 +1,4 @@
--- The loop keeps what the pushes' own loop keeps, over the records of the list.
+-- The loop keeps what that of `each` keeps, over the records of the list.
 use mathlib.Core.Path.{sym, subst, _∙_}
 use Prim.Native.Nat.{_-_, _/_, _<_}
 use native.Mathlib.Omega.{arith}

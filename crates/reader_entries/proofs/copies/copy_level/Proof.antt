@@ -27,7 +27,7 @@ passes c = passed-rows _ _ _ _ (sym (c .before .refusal-of-copy .ensures) ∙ c 
 level-words-requires : tie.Need-level-words-requires
 level-words-requires c κs = (passes c .set, passes c .long, passes c .level)
 
--- the words handed back are as many as the buffer holds
+-- the level's words are as many as the buffer holds
 words-long : (c : tie.After-level-words) → length (c .level-words .result .now) ≡ length (c .before .before .before .before .before .before .args .buffer .now)
 words-long c = ap length (c .level-words .ensures) ∙ part-long _ _ _ _ (passes (c .before))
 

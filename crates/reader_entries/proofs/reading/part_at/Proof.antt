@@ -1,4 +1,4 @@
--- A walk of `part_at`: the view's slice goes to `refusal_of_read` and, with the row, to `words_of_read`; their answers are the part.
+-- A walk of `part_at`: the view's slice goes to `refusal_of_read` and, with the number, to `words_of_read`; their answers are the part.
 -- Both are known by their contracts alone. A `&[u64]` is Copy, so each call has its own.
 use mathlib.Core.Path.{_≡_, refl, ap, subst}
 use mathlib.Core.List.{List, [], _∷_}
@@ -219,7 +219,7 @@ module _ {M : Type 1} (𝓤 : URA M) (H : Heap 𝓤) (A : Atoms 𝓤) (W : Given
         calls-at ! fm (Row 𝓤 H A mem run) known-row to-row (and-then ! (load ! (from ! (stop !)) (look ! 14 refl)) (and-then ! (load ! (from ! (stop !)) (look ! 4 refl)) (and-then ! (load ! (from ! (stop !)) (look ! 10 refl)) (no-more !)))) (λ w.
         use1 W (later (some (λ (n : ℕ). ((‵ (flft κ q) ⊛ ‵ ftrue) ⊛ ‵ (u8 .own n (w ∷ []))) ⊛ raw (ensured 𝓤 H A refusals.ended (refusals.clauses 𝓤 H A mem run) (κ, tt) row-args tt n)))) (id⊢ 𝓤 _) $ await ! tt $ pick ! (λ n.
         split ! $ move ! (1 ∷ []) $ use1 W (raw (fact 𝓤 (RowIs n))) (row-said n) $ heard ! (RowIs n) (λ e. split ! $ move ! (1 ∷ []) $
-        -- [the row; the token; the slice; local 7; …]
+        -- [the number; the token; the slice; local 7; …]
         peeks ! u8 (Is u8) (shows 𝓤 H A u8) n (w ∷ []) (λ is-n.
         land ! (from ! (stop !)) (init ! 9 refl (uint-lawful 𝓤 H A W w8 .typed n _ is-n .0)) $ rewrite ! 9 (λ (u : Val). ‵ (fat fullShare (tyInt w8) l₄ 0 u)) (ap only (is-n .0)) refl $
         assigns ! (of-opd ! (load ! (from ! (fld ! refl (stop !))) (look-in ! 13 (sub ! 0 refl (whole !))))) (from ! (stop !)) (init ! 3 refl (tt, typed-d .1 .0)) $
@@ -227,7 +227,7 @@ module _ {M : Type 1} (𝓤 : URA M) (H : Heap 𝓤) (A : Atoms 𝓤) (W : Given
         calls-at ! fm (Words 𝓤 H A mem run) known-words (to-words n) (and-then ! (load ! (from ! (stop !)) (look ! 14 refl)) (and-then ! (load ! (from ! (stop !)) (look ! 2 refl)) (and-then ! (load ! (from ! (stop !)) (look ! 10 refl)) (and-then ! (load ! (from ! (stop !)) (look ! 8 refl)) (no-more !))))) (λ w′.
         use1 W (later (some (λ (r : RefT (List ℕ)). ((‵ (flft κ q) ⊛ ‵ ftrue) ⊛ ‵ (ShrSlice (named 0) κ u64 .own r (w′ ∷ []))) ⊛ raw (ensured 𝓤 H A words.ended (words.clauses 𝓤 H A mem run) (κ, tt) (words-args n) tt r)))) (id⊢ 𝓤 _) $ await ! tt $ pick ! (λ r.
         split ! $ move ! (1 ∷ []) $ use1 W (raw (fact 𝓤 (RowIs n → WordsAre r))) (words-said n r) $ heard ! (RowIs n → WordsAre r) (λ f. split ! $ move ! (1 ∷ []) $
-        -- [the words; the token; the row; local 7; …]
+        -- [the words; the token; the number; local 7; …]
         peeks ! (ShrSlice (named 0) κ u64) (Is (ShrSlice (named 0) κ u64)) (shows 𝓤 H A (ShrSlice (named 0) κ u64)) r (w′ ∷ []) (λ is-r.
         land ! (from ! (stop !)) (init ! 7 refl (shr-slice-lawful 𝓤 H A W erased κ u64 .typed r _ is-r .0)) $ rewrite ! 7 (λ (u : Val). ‵ (fat fullShare lentTy l₅ 0 u)) (ap only (shr-slice-tells (named 0) κ u64 r _ is-r)) refl $
         rewrite ! 0 (λ (us : List Val). ‵ (ShrSlice (named 0) κ u64 .own r us)) (shr-slice-tells (named 0) κ u64 r _ is-r) refl $

@@ -12,31 +12,24 @@ use Rattle.trees.proofs.building.ends_in_words.Reads as reads
 use Rattle.trees.proofs.building.ends_in_words.Lts as lts
 use Rattle.parameters.proofs.all_words.Reads as all-words-reads
 
--- src/tree.rt:114:14
 sub-at : tie.Need-sub-at
 sub-at c = search needs
 
--- src/tree.rt:115:27
 mul-all-words : tie.Need-mul-all-words
 mul-all-words c = search needs
 
--- src/tree.rt:115:27
 sub-all-words : tie.Need-sub-all-words
 sub-all-words c = search needs
 
--- src/tree.rt:115:27
 part-all-words-start : tie.Need-part-all-words-start
 part-all-words-start c = search needs
 
--- src/tree.rt:115:27
 part-all-words-end : tie.Need-part-all-words-end
 part-all-words-end c = search needs
 
--- src/tree.rt:115:5
 all-words-requires : tie.Need-all-words-requires
 all-words-requires c κs = search needs
 
--- src/tree.rt:110:1
 returns : tie.Need-returns
 returns c =
     let a = c .before .before .before .args in
