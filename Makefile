@@ -1,5 +1,5 @@
-# make run: proves and builds the root program, and runs it on document 01's case: it prints 6 and 4.
-# make library: proves the library for C and Rust, and writes target/staticlib/libexports.a.
+# make run: proves and builds the root program, and runs it on a worked case: it prints 6 and 4.
+# make library: proves the library for C and Rust, and writes target/staticlib/libopening_tree_c.a.
 # make test: the gate.
 # make bench: the benchmark, beside Rust (needs rustc): docs/BENCHMARK.md.
 .PHONY: run library test bench
@@ -9,7 +9,7 @@ run:
 	target/bin/root < crates/root/stdin
 
 library:
-	rt staticlib exports
+	rt staticlib opening_tree_c
 
 test:
 	bash .ci/run

@@ -4,7 +4,7 @@ use crate::trees::{Rounds, Set};
 /// Declares C functions that take a set and then what is named, and return a number.
 macro_rules! declare {
     ($($name:ident($($parameter:ident: $kind:ty),*);)*) => {
-        #[link(name = "exports", kind = "static")]
+        #[link(name = "opening_tree_c", kind = "static")]
         extern "C" {
             $(fn $name(
                 width: u64, node_size: u64, height: u64, full_rounds: u64, partial_rounds: u64,
@@ -28,7 +28,9 @@ declare! {
     opening_tree_replace(
         store: *mut u64, store_count: usize, place: u64, leaf: *const u64, leaf_count: usize, made: *mut u64
     );
-    opening_tree_push(store: *mut u64, store_count: usize, records: *const u64, records_count: usize, made: *mut u64);
+    opening_tree_push_numbers(
+        store: *mut u64, store_count: usize, numbers: *const u64, numbers_count: usize, made: *mut u64
+    );
 }
 
 #[link(name = "measures", kind = "static")]
@@ -148,7 +150,7 @@ pub fn replace(set: &Set, store: &mut [u64], place: u64, leaf: &[u64], made: &mu
 
 pub fn push(set: &Set, store: &mut [u64], records: &[u64], made: &mut u64) -> u8 {
     call!(
-        opening_tree_push,
+        opening_tree_push_numbers,
         set,
         store.as_mut_ptr(),
         store.len(),

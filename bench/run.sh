@@ -5,7 +5,7 @@
 set -euo pipefail
 cd "$(dirname "$0")/.."
 if [ -z "${BENCH_KEEP:-}" ]; then
-    rt staticlib exports >&2
+    rt staticlib opening_tree_c >&2
     rt staticlib measures >&2
 fi
 mkdir -p target/bench

@@ -227,9 +227,9 @@ pub fn bare_compress<V: Version, const T: usize>(rounds: &Rounds, row: &[u64; T]
 
 #[inline(never)]
 pub fn compress<V: Version, const T: usize>(set: &Set, state: &[u64], node: &mut [u64]) -> u8 {
-    let row = validate::<V>(set);
-    if row != DONE {
-        return row;
+    let number = validate::<V>(set);
+    if number != DONE {
+        return number;
     }
     let Ok(words) = state.try_into() else { return BAD_LENGTH };
     if node.len() as u64 != set.node_size {
@@ -244,9 +244,9 @@ pub fn compress<V: Version, const T: usize>(set: &Set, state: &[u64], node: &mut
 
 #[inline(never)]
 pub fn build<V: Version, const T: usize>(set: &Set, leaves: &[u64], store: &mut [u64]) -> u8 {
-    let row = validate::<V>(set);
-    if row != DONE {
-        return row;
+    let number = validate::<V>(set);
+    if number != DONE {
+        return number;
     }
     let sizes = Sizes::of(set);
     if leaves.len() != sizes.leaf_words() || store.len() != sizes.store_words() {
@@ -263,9 +263,9 @@ pub fn build<V: Version, const T: usize>(set: &Set, leaves: &[u64], store: &mut 
 
 #[inline(never)]
 pub fn storeless_root<V: Version, const T: usize>(set: &Set, leaves: &[u64], node: &mut [u64]) -> u8 {
-    let row = validate::<V>(set);
-    if row != DONE {
-        return row;
+    let number = validate::<V>(set);
+    if number != DONE {
+        return number;
     }
     let sizes = Sizes::of(set);
     if leaves.len() != sizes.leaf_words() || node.len() != sizes.node {
@@ -281,9 +281,9 @@ pub fn storeless_root<V: Version, const T: usize>(set: &Set, leaves: &[u64], nod
 
 #[inline(never)]
 pub fn open<V: Version, const T: usize>(set: &Set, store: &[u64], place: u64, siblings: &mut [u64]) -> u8 {
-    let row = validate::<V>(set);
-    if row != DONE {
-        return row;
+    let number = validate::<V>(set);
+    if number != DONE {
+        return number;
     }
     let sizes = Sizes::of(set);
     if store.len() != sizes.store_words() || siblings.len() != sizes.opening_words() {
@@ -305,9 +305,9 @@ pub fn open<V: Version, const T: usize>(set: &Set, store: &[u64], place: u64, si
 
 #[inline(never)]
 pub fn verify<V: Version, const T: usize>(set: &Set, root: &[u64], place: u64, leaf: &[u64], siblings: &[u64]) -> u8 {
-    let row = validate::<V>(set);
-    if row != DONE {
-        return row;
+    let number = validate::<V>(set);
+    if number != DONE {
+        return number;
     }
     let sizes = Sizes::of(set);
     if root.len() != sizes.node || leaf.len() != sizes.node || siblings.len() != sizes.opening_words() {
@@ -338,9 +338,9 @@ pub fn verify<V: Version, const T: usize>(set: &Set, root: &[u64], place: u64, l
 
 #[inline(never)]
 pub fn replace<V: Version, const T: usize>(set: &Set, store: &mut [u64], place: u64, leaf: &[u64], made: &mut u64) -> u8 {
-    let row = validate::<V>(set);
-    if row != DONE {
-        return row;
+    let number = validate::<V>(set);
+    if number != DONE {
+        return number;
     }
     let sizes = Sizes::of(set);
     if store.len() != sizes.store_words() || leaf.len() != sizes.node {
@@ -358,9 +358,9 @@ pub fn replace<V: Version, const T: usize>(set: &Set, store: &mut [u64], place: 
 
 #[inline(never)]
 pub fn push<V: Version, const T: usize>(set: &Set, store: &mut [u64], records: &[u64], made: &mut u64) -> u8 {
-    let row = validate::<V>(set);
-    if row != DONE {
-        return row;
+    let number = validate::<V>(set);
+    if number != DONE {
+        return number;
     }
     let sizes = Sizes::of(set);
     if store.len() != sizes.store_words() || records.len() % RECORD != 0 || records.len() / RECORD > 1 << 32 {

@@ -1,7 +1,7 @@
 #!/usr/bin/env bash
-# Tests the Rust bindings, after `rt staticlib exports`: their own tests, the differential ones among them, the examples of their pages,
-# that these pages are made without a warning, and the first example, which must print what the reference does. The last line counts the
-# tests; a file of tests in which none ran is a failure.
+# Tests the Rust bindings, after `rt staticlib opening_tree_c`: their own tests, the differential ones among them, the examples of their
+# pages, that these pages are made without a warning, and the first example, which must print what the reference does. The last line counts
+# the tests; a file of tests in which none ran is a failure.
 set -eu
 cd "$(dirname "$0")/../bindings/rust"
 export CARGO_TARGET_DIR=../../target/rust CARGO_TERM_COLOR=never

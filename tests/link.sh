@@ -1,10 +1,11 @@
 #!/usr/bin/env bash
-# Links the library into two C programs, after `rt staticlib exports`: one that calls every function, and the first example, which must
-# print what the reference does. Both are built without a warning as C99 and, where there is a C++ compiler, as C++11. Also what the library
-# needs of the C library is what its header says. The last line counts the checks.
+# Links the library into two C programs, after `rt staticlib opening_tree_c`: one that calls every function, and the first example, which
+# must print what the reference does. Both are built without a warning as C99 and, where there is a C++ compiler, as C++11. Also what the
+# library needs of the C library is what its header says. The last line counts the checks.
 set -eu
 cd "$(dirname "$0")/.."
 mkdir -p target/tests
+library=target/staticlib/libopening_tree_c.a
 wanted=$(python3 examples/first.py)
 passed=0
 
@@ -32,10 +33,10 @@ try() { # COMPILER...: builds and runs both programs, and tries each header by i
 }
 
 build() { # COMPILER... SOURCE
-    "${@:1:$#-1}" -pedantic -Wall -Wextra -Werror -O2 -Iinclude "${@: -1}" -x none target/staticlib/libexports.a -o target/tests/program
+    "${@:1:$#-1}" -pedantic -Wall -Wextra -Werror -O2 -Iinclude "${@: -1}" -x none "$library" -o target/tests/program
 }
 
-needed=$(nm -u target/staticlib/libexports.a | awk '$1 == "U" { print $2 }' | sort -u | tr '\n' ' ')
+needed=$(nm -u "$library" | awk '$1 == "U" { print $2 }' | sort -u | tr '\n' ' ')
 [ "$needed" = 'memcpy memset ' ] || fail "the library needs something else of the C library than its header says" "$needed"
 passed=$((passed + 1))
 

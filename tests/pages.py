@@ -50,13 +50,13 @@ for page in PAGES:
 
 declared = set(re.findall(r"^uint8_t (opening_tree_\w+)\(", read("include/opening_tree.h"), re.M))
 inlined = set(re.findall(r"^static inline uint8_t (opening_tree_\w+)\(", read("include/opening_tree.h"), re.M))
-exported = {name for source in (ROOT / "crates/exports/src").glob("*.rt")
+exported = {name for source in (ROOT / "crates/opening_tree_c/src").glob("*.rt")
             for name in re.findall(r'^pub extern "C" fn (\w+)', source.read_text(encoding="utf-8"), re.M)}
 bound = set(re.findall(r"fn (opening_tree_\w+)\(", read("bindings/rust/src/sys.rs")))
 called = set(re.findall(r"\b(opening_tree_\w+)\(", read("tests/link.c")))
 check(len(exported) > 0, "no function is exported")
-check(declared == exported, f"the header and the exports differ: {sorted(declared ^ exported)}")
-check(bound == exported, f"the bindings and the exports differ: {sorted(bound ^ exported)}")
+check(declared == exported, f"the header and the exported functions differ: {sorted(declared ^ exported)}")
+check(bound == exported, f"the bindings and the exported functions differ: {sorted(bound ^ exported)}")
 check(called == exported | inlined, f"tests/link.c does not call each function: {sorted(called ^ (exported | inlined))}")
 
 

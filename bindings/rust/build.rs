@@ -1,4 +1,4 @@
-//! Links libexports.a, the proved library.
+//! Links libopening_tree_c.a, the proved library.
 
 use std::path::PathBuf;
 use std::{env, process};
@@ -11,15 +11,15 @@ fn main() {
         Some(folder) => PathBuf::from(folder),
         None => PathBuf::from(env::var_os("CARGO_MANIFEST_DIR").expect("cargo sets it")).join("../../target/staticlib"),
     };
-    let archive = folder.join("libexports.a");
+    let archive = folder.join("libopening_tree_c.a");
     println!("cargo:rerun-if-changed={}", archive.display());
     if !archive.is_file() {
         eprintln!(
-            "{} is not there: `rt staticlib exports` makes it, or {FOLDER_VARIABLE} names the folder that has it.",
+            "{} is not there: `rt staticlib opening_tree_c` makes it, or {FOLDER_VARIABLE} names the folder that has it.",
             archive.display()
         );
         process::exit(1);
     }
     println!("cargo:rustc-link-search=native={}", folder.display());
-    println!("cargo:rustc-link-lib=static=exports");
+    println!("cargo:rustc-link-lib=static=opening_tree_c");
 }
