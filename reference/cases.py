@@ -96,7 +96,7 @@ class Case:
     state: Listed
     node: int
     beyond: int = 0
-    row: int = 0
+    refusal: int = 0
 
     def five(self) -> list[int]:
         """The five numbers."""
@@ -283,12 +283,12 @@ def faults(case: Case) -> dict[int, list[Fault]]:
 ORDER = [1, 2, 3, 4, 5, 9, 8, 7, 6, 12, 10]
 
 
-def faulted(case: Case, *rows_and_faults: tuple[int, Fault]) -> Case:
+def faulted(case: Case, *refusals_and_faults: tuple[int, Fault]) -> Case:
     """The case with these faults; the lowest number is to refuse it."""
     case = deepcopy(case)
-    for row, fault in sorted(rows_and_faults, key=lambda pair: ORDER.index(pair[0])):
+    for _, fault in sorted(refusals_and_faults, key=lambda pair: ORDER.index(pair[0])):
         fault(case)
-    case.row = min(row for row, _ in rows_and_faults)
+    case.refusal = min(number for number, _ in refusals_and_faults)
     return case
 
 
@@ -313,7 +313,7 @@ def heights() -> Iterator[Case]:
         top = highest(t, l)
         for h in (0, top, top + 1):
             case = seeded(t, l, h, 2, 0, i)
-            case.row = 5 if h > top else 0
+            case.refusal = 5 if h > top else 0
             yield case
 
 
@@ -321,7 +321,7 @@ def widths_in_full() -> Iterator[Case]:
     """Widths that are none, all else as such a width asks."""
     for t, l in ((0, 1), (1, 1), (2, 1), (3, 1), (5, 1), (6, 2), (16, 4)):
         case = seeded(t, l, 1, 2, 3, 40)
-        case.row = 1
+        case.refusal = 1
         yield case
 
 
@@ -364,9 +364,9 @@ BASES = [
 def single_faults() -> Iterator[Case]:
     """Each refusal alone, in each of its ways."""
     for base in BASES:
-        for row, ways in faults(base).items():
+        for number, ways in faults(base).items():
             for fault in ways:
-                yield faulted(base, (row, fault))
+                yield faulted(base, (number, fault))
 
 
 def double_faults() -> Iterator[Case]:
@@ -479,16 +479,16 @@ def state_faults(case: Case) -> dict[int, list[Fault]]:
 
 def set_faults(case: Case) -> dict[int, list[Fault]]:
     """The ways in which each refusal can apply to a set that is handed in: all but 6."""
-    return {row: ways for row, ways in faults(case).items() if row != 6}
+    return {number: ways for number, ways in faults(case).items() if number != 6}
 
 
 def refused_states() -> Iterator[Case]:
     """Each refusal alone, and two at once."""
     for number, base in enumerate(STATE_BASES):
         ways = set_faults(base) | state_faults(base)
-        for row in ways:
-            for fault in ways[row]:
-                yield faulted(base, (row, fault))
+        for i in ways:
+            for fault in ways[i]:
+                yield faulted(base, (i, fault))
         for i in ways:
             for j in (10, 12):
                 if i < j:
@@ -504,8 +504,8 @@ def refused_nodes() -> Iterator[Case]:
             case = deepcopy(base)
             case.node = node
             yield case
-        for row, fault in ((9, all_of(P - base.width, base.width)), (12, at("state", 1, P))):
-            case = faulted(base, (row, fault))
+        for number, fault in ((9, all_of(P - base.width, base.width)), (12, at("state", 1, P))):
+            case = faulted(base, (number, fault))
             case.node = base.node_size + 1
             yield case
 
@@ -524,11 +524,11 @@ def states_cases() -> Iterator[tuple[int, Case]]:
 
 def lines(sections: list[Callable[[], Iterator[tuple]]]) -> list[str]:
     """Every line of a program's input."""
-    rows = []
+    made = []
     for number, section in enumerate(sections):
-        rows.append([HEADER, number])
-        rows += [case.line(what) for what, case in section()]
-    return [" ".join(map(str, row)) for row in [[len(rows)], *rows]]
+        made.append([HEADER, number])
+        made += [case.line(what) for what, case in section()]
+    return [" ".join(map(str, line)) for line in [[len(made)], *made]]
 
 
 SECTIONS = [sets_cases, states_cases]

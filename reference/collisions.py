@@ -280,12 +280,12 @@ def collision(search: Search, pairs: list[Pair], height: int, level: int, digit:
     t, l = search.width, search.node_size
     first_round, rows = rows_of(search, pairs)
     constants = first_round + search.last
-    kind, judged = validate(t, l, height, 2, 0, search.diagonal, constants)
+    kind, s = validate(t, l, height, 2, 0, search.diagonal, constants)
     assert kind == "set"
     digits = [digit, *range(1, len(pairs))]
     place = sum(n * (t // l) ** j for j, n in enumerate(digits))
     upper = search.words((height - len(pairs)) * (t - l))
     sides = [offered(l, [pair[side] for pair in rows], digits) for side in range(2)]
     first, second = ((leaf, siblings + upper) for leaf, siblings in sides)
-    _, root = verdict_rows(judged, place, *first)
-    return Collision(judged, search.seed, root, place, first, second, level)
+    _, root = verdict_rows(s, place, *first)
+    return Collision(s, search.seed, root, place, first, second, level)

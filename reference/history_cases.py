@@ -40,7 +40,7 @@ class Replace:
 
     place: int
     leaf: Listed
-    row: int = 0
+    refusal: int = 0
 
     def text(self) -> list[int]:
         """Its numbers in the input."""
@@ -52,14 +52,14 @@ class Push:
     """A push, and the number that is to refuse it."""
 
     records: Listed
-    row: int = 0
+    refusal: int = 0
 
     def text(self) -> list[int]:
         """Its numbers in the input."""
         return [PUSH, *self.records.text()]
 
     def listed(self) -> list[tuple[int, list[int]]]:
-        """The records that it lends."""
+        """The records that it hands in."""
         numbers = self.records.numbers(RECORD_PLACES)
         starts = range(0, len(numbers), RECORD)
         return [(numbers[i], numbers[i + 1 : i + RECORD]) for i in starts]
@@ -137,18 +137,18 @@ def refused_pushes(caller: Caller) -> Iterator[Push]:
     for at, bad in ((0, places), (2, LARGEST), (3, places)):
         push = caller.push(*caller.spread(4))
         push.records.write(RECORD * at, bad)
-        push.row = 11
+        push.refusal = 11
         yield push
     for at, word in ((0, 0), (3, size - 1)):
         push = caller.push(*caller.spread(4))
         push.records.write(RECORD * at + 1 + word, P)
-        push.row = 12
+        push.refusal = 12
         yield push
     for place_at, word_at in ((0, 1), (1, 0)):
         push = caller.push(*caller.spread(2))
         push.records.write(RECORD * place_at, places)
         push.records.write(RECORD * word_at + 1, P)
-        push.row = 11
+        push.refusal = 11
         yield push
 
 
@@ -162,11 +162,11 @@ def unread_words(caller: Caller) -> Iterator[Push]:
 
 
 def full_push(caller: Caller) -> Iterator[Push]:
-    """As many records as the program can lend, and the last one bad."""
+    """As many records as the program has room for, and the last one bad."""
     yield caller.push(*caller.spread(MOST))
     push = caller.push(*caller.spread(MOST))
     push.records.write(RECORD * (MOST - 1), caller.tree.places)
-    push.row = 11
+    push.refusal = 11
     yield push
 
 
@@ -192,8 +192,8 @@ def histories() -> Iterator[History]:
 
 def lines() -> list[str]:
     """Every line of the input."""
-    rows = [one.line() for one in histories()]
-    return [" ".join(map(str, row)) for row in [[len(rows)], *rows]]
+    made = [one.line() for one in histories()]
+    return [" ".join(map(str, line)) for line in [[len(made)], *made]]
 
 
 if __name__ == "__main__":

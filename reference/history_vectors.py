@@ -14,7 +14,7 @@ end:
 where A is an answer as in the sections that tree_vectors.py describes, with
 digests; M is how many records are handed in; and DIGEST is that of the whole
 store after the call. V is the verdict on the store's root, the place, its leaf
-and its opening. B is what a reader hands back, the digest of a level's part
+and its opening. B is what a reader gives, the digest of a level's part
 or `refused N`: of the opening for each level and one level too many; the same
 after its first number is p, if it has one; and for level 0 after one number more.
 The reference takes that leaf from the leaf book, which has
@@ -64,7 +64,7 @@ def begun(one: History) -> tuple[ParameterSet, list[int], Called]:
 
 
 def reading(s: ParameterSet, siblings: list[int], level: int) -> str:
-    """What a reader hands back for a level."""
+    """What a reader gives for a level."""
     kind, answer = merkle.read_opening(s, siblings, level)
     return f"refused {answer}" if kind == "refused" else str(digest(answer))
 
@@ -82,8 +82,8 @@ def readings(s: ParameterSet, siblings: list[int]) -> str:
 def place_line(s: ParameterSet, one: History, store: list[int], place: int, leaf: list[int]) -> str:
     """The opening of a place, and the verdict on the leaf that the book has there."""
     opened = written(merkle.opening, s, store, place, [7] * one.tree.siblings)
-    judged = merkle.verify(s, store[-s.node_size :], place, leaf, opened[1])
-    line = f"place {place} open {as_digest(opened)} verify {verdict(*judged)}"
+    answer = merkle.verify(s, store[-s.node_size :], place, leaf, opened[1])
+    line = f"place {place} open {as_digest(opened)} verify {verdict(*answer)}"
     return f"{line} {readings(s, opened[1])}"
 
 

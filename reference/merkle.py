@@ -8,7 +8,7 @@ A record is a pair (place, six words).
 """
 
 from field import all_words
-from parameters import ParameterSet, arity, leaf_count, row_of_set
+from parameters import ParameterSet, arity, leaf_count, refusal_of_set
 from poseidon2 import compression, cut
 
 Words = list[int]
@@ -66,9 +66,9 @@ def levels(s: ParameterSet, leaves: Words) -> list[Words]:
 
 def build(s: ParameterSet, leaves: Words, store: Words) -> Answer:
     """Building (Rules 4.5): ("done", None)."""
-    row = row_of_set(s)
-    if row is not None:
-        return ("refused", row)
+    number = refusal_of_set(s)
+    if number is not None:
+        return ("refused", number)
     if len(leaves) != leaves_length(s) or len(store) != store_length(s):
         return ("refused", 10)
     if not all_words(leaves):
@@ -79,9 +79,9 @@ def build(s: ParameterSet, leaves: Words, store: Words) -> Answer:
 
 def root(s: ParameterSet, store: Words) -> Answer:
     """The root that a store ends with (Rules 4.6): ("words", root)."""
-    row = row_of_set(s)
-    if row is not None:
-        return ("refused", row)
+    number = refusal_of_set(s)
+    if number is not None:
+        return ("refused", number)
     if len(store) != store_length(s):
         return ("refused", 10)
     last = store[-s.node_size :]
@@ -110,9 +110,9 @@ def row_from_leaves(
 
 def storeless_root(s: ParameterSet, leaves: Words) -> Answer:
     """The root of the leaves, without a store: ("words", root)."""
-    row = row_of_set(s)
-    if row is not None:
-        return ("refused", row)
+    number = refusal_of_set(s)
+    if number is not None:
+        return ("refused", number)
     if len(leaves) != leaves_length(s):
         return ("refused", 10)
     if not all_words(leaves):
@@ -147,9 +147,9 @@ def stored_siblings(s: ParameterSet, store: Words, place: int) -> Words:
 
 def opening(s: ParameterSet, store: Words, place: int, siblings: Words) -> Answer:
     """The opening of a place is written to the list of siblings: ("done", None)."""
-    row = row_of_set(s)
-    if row is not None:
-        return ("refused", row)
+    number = refusal_of_set(s)
+    if number is not None:
+        return ("refused", number)
     if len(store) != store_length(s) or len(siblings) != siblings_length(s):
         return ("refused", 10)
     if not is_place(s, place):
@@ -169,9 +169,9 @@ def level_part(s: ParameterSet, siblings: Words, level: int) -> Words:
 
 def read_opening(s: ParameterSet, siblings: Words, level: int) -> Answer:
     """The opening reader (Rules 4.9): ("words", part)."""
-    row = row_of_set(s)
-    if row is not None:
-        return ("refused", row)
+    number = refusal_of_set(s)
+    if number is not None:
+        return ("refused", number)
     if len(siblings) != siblings_length(s):
         return ("refused", 10)
     if not 0 <= level < s.height:
@@ -200,9 +200,9 @@ def verify(
     s: ParameterSet, root: Words, place: int, leaf: Words, siblings: Words
 ) -> Answer:
     """The verdict (Rules 4.11): ("accepted", None) or ("rejected", None)."""
-    row = row_of_set(s)
-    if row is not None:
-        return ("refused", row)
+    number = refusal_of_set(s)
+    if number is not None:
+        return ("refused", number)
     if len(root) != s.node_size or len(leaf) != s.node_size:
         return ("refused", 10)
     if len(siblings) != siblings_length(s):
@@ -241,9 +241,9 @@ def write_path(
 
 def replace(s: ParameterSet, store: Words, place: int, leaf: Words) -> Answer:
     """A replacement (Rules 5.2): ("count", n)."""
-    row = row_of_set(s)
-    if row is not None:
-        return ("refused", row)
+    number = refusal_of_set(s)
+    if number is not None:
+        return ("refused", number)
     if len(store) != store_length(s) or len(leaf) != s.node_size:
         return ("refused", 10)
     if not is_place(s, place):
@@ -261,9 +261,9 @@ def record_leaf(s: ParameterSet, record: Record) -> Words:
 
 def push(s: ParameterSet, store: Words, records: list[Record]) -> Answer:
     """A push (Rules 5.4): ("count", n)."""
-    row = row_of_set(s)
-    if row is not None:
-        return ("refused", row)
+    number = refusal_of_set(s)
+    if number is not None:
+        return ("refused", number)
     if len(store) != store_length(s) or len(records) > MOST_RECORDS:
         return ("refused", 10)
     if not all(is_place(s, place) for place, _ in records):
@@ -293,9 +293,9 @@ def extract(
     second_row: Words,
 ) -> Answer:
     """The lowest level where the leaves' rows collide (Rules 5.7): ("level", j)."""
-    row = row_of_set(s)
-    if row is not None:
-        return ("refused", row)
+    number = refusal_of_set(s)
+    if number is not None:
+        return ("refused", number)
     if any(len(node) != s.node_size for node in (root, first_leaf, second_leaf)):
         return ("refused", 10)
     if any(len(o) != siblings_length(s) for o in (first_siblings, second_siblings)):

@@ -50,7 +50,7 @@ def used_constants(s: ParameterSet) -> list[int]:
     return s.constants[: constant_count(s.width, s.full_rounds, s.partial_rounds)]
 
 
-def row_of_numbers(
+def refusal_of_numbers(
     width: int, node_size: int, height: int, full_rounds: int, partial_rounds: int
 ) -> int | None:
     """1 to 5: the first that applies to the five numbers, or None."""
@@ -76,7 +76,7 @@ def inverses_cancel(diagonal: tuple[int, ...]) -> bool:
     return total == 0
 
 
-def row_of_words(diagonal: list[int], constants: list[int]) -> int | None:
+def refusal_of_words(diagonal: list[int], constants: list[int]) -> int | None:
     """7 to 9: the first that applies to the words of D and C, or None."""
     if not all(is_word(n) for n in diagonal + constants):
         return 7
@@ -97,15 +97,15 @@ def validate(
     constants: list[int],
 ) -> tuple[str, ParameterSet | int]:
     """Validation (Rules 2.4): ("set", s) or ("refused", r)."""
-    row = row_of_numbers(width, node_size, height, full_rounds, partial_rounds)
-    if row is not None:
-        return ("refused", row)
+    number = refusal_of_numbers(width, node_size, height, full_rounds, partial_rounds)
+    if number is not None:
+        return ("refused", number)
     count = constant_count(width, full_rounds, partial_rounds)
     if len(diagonal) != width or len(constants) != count:
         return ("refused", 6)
-    row = row_of_words(diagonal, constants)
-    if row is not None:
-        return ("refused", row)
+    number = refusal_of_words(diagonal, constants)
+    if number is not None:
+        return ("refused", number)
     return (
         "set",
         ParameterSet(
@@ -125,11 +125,11 @@ def filled(words: list[int], places: int) -> list[int]:
     return words + [0] * (places - len(words))
 
 
-def row_of_set(s: ParameterSet) -> int | None:
+def refusal_of_set(s: ParameterSet) -> int | None:
     """What every entry tests of a set: validation's refusals but 6 (Rules 2.7)."""
-    row = row_of_numbers(
+    number = refusal_of_numbers(
         s.width, s.node_size, s.height, s.full_rounds, s.partial_rounds
     )
-    if row is not None:
-        return row
-    return row_of_words(used_diagonal(s), used_constants(s))
+    if number is not None:
+        return number
+    return refusal_of_words(used_diagonal(s), used_constants(s))

@@ -9,7 +9,7 @@ from operator import mul
 from typing import Callable
 
 from field import P, SEVENTH_ROOT_EXPONENT, all_words
-from parameters import ParameterSet, row_of_set, used_constants, used_diagonal
+from parameters import ParameterSet, refusal_of_set, used_constants, used_diagonal
 
 Words = list[int]
 Matrix = list[list[int]]
@@ -177,11 +177,11 @@ def inverse_permutation(s: ParameterSet, state: Words) -> Words:
     return times(external_inverse, state)
 
 
-def row_of_state(s: ParameterSet, state: Words) -> int | None:
+def refusal_of_state(s: ParameterSet, state: Words) -> int | None:
     """The first refusal that applies to a set and a state handed in, or None."""
-    row = row_of_set(s)
-    if row is not None:
-        return row
+    number = refusal_of_set(s)
+    if number is not None:
+        return number
     if len(state) != s.width:
         return 10
     if not all_words(state):
@@ -191,17 +191,17 @@ def row_of_state(s: ParameterSet, state: Words) -> int | None:
 
 def permute(s: ParameterSet, state: Words) -> tuple[str, Words | int]:
     """The permutation of a state of t words."""
-    row = row_of_state(s, state)
-    if row is not None:
-        return ("refused", row)
+    number = refusal_of_state(s, state)
+    if number is not None:
+        return ("refused", number)
     return ("words", permutation(s, state))
 
 
 def unpermute(s: ParameterSet, state: Words) -> tuple[str, Words | int]:
     """The inverse permutation of a state of t words."""
-    row = row_of_state(s, state)
-    if row is not None:
-        return ("refused", row)
+    number = refusal_of_state(s, state)
+    if number is not None:
+        return ("refused", number)
     return ("words", inverse_permutation(s, state))
 
 
@@ -209,12 +209,12 @@ def compress(
     s: ParameterSet, state: Words, node_length: int
 ) -> tuple[str, Words | int]:
     """The compression of t words, for a node's buffer of this length."""
-    row = row_of_set(s)
-    if row is not None:
-        return ("refused", row)
+    number = refusal_of_set(s)
+    if number is not None:
+        return ("refused", number)
     if node_length != s.node_size:
         return ("refused", 10)
-    row = row_of_state(s, state)
-    if row is not None:
-        return ("refused", row)
+    number = refusal_of_state(s, state)
+    if number is not None:
+        return ("refused", number)
     return ("words", compression(s, state))

@@ -3,7 +3,7 @@
 import sys
 
 from merkle import storeless_root
-from parameters import constant_count, row_of_numbers, validate
+from parameters import constant_count, refusal_of_numbers, validate
 
 MOST_BYTES = 65536
 
@@ -13,9 +13,9 @@ def numbers_of(data: bytes) -> list[int]:
     return [int.from_bytes(data[i : i + 8], "little") for i in range(0, len(data), 8)]
 
 
-def refused(row: int) -> bytes:
+def refused(number: int) -> bytes:
     """The line of a refusal."""
-    return f"refused {row}\n".encode()
+    return f"refused {number}\n".encode()
 
 
 def run(data: bytes) -> bytes:
@@ -25,14 +25,14 @@ def run(data: bytes) -> bytes:
         return refused(10)
     numbers = numbers_of(data)
     width, node_size, height, full_rounds, partial_rounds = numbers[:5]
-    row = row_of_numbers(width, node_size, height, full_rounds, partial_rounds)
-    if row is not None:
-        return refused(row)
+    number = refusal_of_numbers(width, node_size, height, full_rounds, partial_rounds)
+    if number is not None:
+        return refused(number)
     # Where the numbers end too early one of these two is too short, and
     # validation answers 6.
     diagonal_end = 5 + width
     constants_end = diagonal_end + constant_count(width, full_rounds, partial_rounds)
-    kind, judged = validate(
+    kind, validated = validate(
         width,
         node_size,
         height,
@@ -42,8 +42,8 @@ def run(data: bytes) -> bytes:
         numbers[diagonal_end:constants_end],
     )
     if kind == "refused":
-        return refused(judged)
-    kind, answer = storeless_root(judged, numbers[constants_end:])
+        return refused(validated)
+    kind, answer = storeless_root(validated, numbers[constants_end:])
     if kind == "refused":
         return refused(answer)
     return "".join(f"{word}\n" for word in answer).encode()

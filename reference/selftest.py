@@ -23,7 +23,7 @@ from parameters import (
     ParameterSet,
     constant_count,
     leaf_count,
-    row_of_set,
+    refusal_of_set,
     validate,
 )
 
@@ -37,9 +37,9 @@ T_NUMBERS = [4, 2, 1, 2, 0, 1, 2, 3, 4] + T_CONSTANTS
 
 def accepted(*arguments) -> ParameterSet:
     """A set that validation must accept."""
-    kind, judged = validate(*arguments)
-    assert kind == "set", (kind, judged)
-    return judged
+    kind, answer = validate(*arguments)
+    assert kind == "set", (kind, answer)
+    return answer
 
 
 def set_t() -> ParameterSet:
@@ -140,7 +140,7 @@ def worked_program() -> Iterator[Check]:
     yield "empty input", program.run(b""), b"refused 10\n"
 
 
-def worked_judge() -> Iterator[Check]:
+def worked_validation() -> Iterator[Check]:
     """The worked cases of validation."""
     got = validate(4, 2, 1, 2, 0, [P - 4] * 4, T_CONSTANTS)
     yield "D all p-4", got, ("refused", 9)
@@ -163,7 +163,7 @@ def worked_place() -> Iterator[Check]:
     yield "push", merkle.push(s, store, [(2, [0] * 6)]), gone
     rows = [0] * 4, [0] * 4
     got = merkle.extract(s, [6, 4], 2, [1, 0], [0, 0], [0, 0], [0, 0], *rows)
-    yield "extractor", got, gone
+    yield "extraction", got, gone
 
 
 def worked_word() -> Iterator[Check]:
@@ -234,7 +234,7 @@ def field_rules() -> Iterator[Check]:
         yield f"root of {word}", field.power(root, 7), ("word", word)
 
 
-def judge_rows() -> Iterator[Check]:
+def validation_refusals() -> Iterator[Check]:
     """Each refusal of validation, and the lowest where several apply."""
     d, c = [1, 2, 3, 4], T_CONSTANTS
     huge = 2**64 - 1
@@ -262,8 +262,8 @@ def judge_rows() -> Iterator[Check]:
         (8, (4, 2, 1, 2, 0, [P - 1, 0, 1, 1], c)),
         (9, (4, 2, 1, 2, 0, [P - 4] * 4, c)),
     ]
-    for row, arguments in cases:
-        yield f"row {row} of {arguments}", validate(*arguments), ("refused", row)
+    for number, arguments in cases:
+        yield f"{number} for {arguments}", validate(*arguments), ("refused", number)
     s = set_t()
     yield "accepted D", s.diagonal, d + [0] * 8
     yield "accepted C", s.constants, c + [0] * 200
@@ -274,10 +274,10 @@ def judge_rows() -> Iterator[Check]:
 def handed_sets() -> Iterator[Check]:
     """A set handed in has the same refusals but 6, on its used places only."""
     s = set_t()
-    yield "T", row_of_set(s), None
+    yield "T", refusal_of_set(s), None
     s.diagonal[4:] = [0, P] * 4
     s.constants[8:] = [P] * 200
-    yield "places beyond", row_of_set(s), None
+    yield "places beyond", refusal_of_set(s), None
     yield "still permutes", poseidon2.permute(s, [1, 0, 0, 0]), ("words", [5, 4, 1, 1])
     changes = [
         (1, "width", 6),
@@ -290,14 +290,14 @@ def handed_sets() -> Iterator[Check]:
         (8, "diagonal", [0] + [1] * 11),
         (9, "diagonal", [P - 4] * 12),
     ]
-    for row, name, value in changes:
+    for number, name, value in changes:
         s = set_t()
         setattr(s, name, value)
-        yield f"{name} to {value}", row_of_set(s), row
-        refused = ("refused", row)
-        yield f"permute, row {row}", poseidon2.permute(s, [P]), refused
-        yield f"build, row {row}", merkle.build(s, [P], []), refused
-        yield f"push, row {row}", merkle.push(s, [P], [(9, [P] * 6)]), refused
+        yield f"{name} to {value}", refusal_of_set(s), number
+        refused = ("refused", number)
+        yield f"permute, refused with {number}", poseidon2.permute(s, [P]), refused
+        yield f"build, refused with {number}", merkle.build(s, [P], []), refused
+        yield f"push, refused with {number}", merkle.push(s, [P], [(9, [P] * 6)]), refused
 
 
 def inverse_permutations() -> Iterator[Check]:
@@ -338,11 +338,11 @@ def vectors_cases() -> Iterator[Check]:
     """Each case is refused with the number that it is made for; all of its input fits."""
     for _, case in cases.sets_cases():
         kind, answer = validate(*case.validated())
-        yield f"validate {case}", 0 if kind == "set" else answer, case.row
+        yield f"validate {case}", 0 if kind == "set" else answer, case.refusal
     for _, case in cases.states_cases():
         state = case.state.numbers(cases.STATE_PLACES)
         kind, answer = poseidon2.permute(case.handed(), state)
-        yield f"permute {case}", 0 if kind == "words" else answer, case.row
+        yield f"permute {case}", 0 if kind == "words" else answer, case.refusal
     yield fitting(cases.SECTIONS)
 
 
@@ -356,9 +356,9 @@ def tree_vectors_cases() -> Iterator[Check]:
     """Each call of the section trees is refused with the numbers that it is made for; all fits."""
     for what, case in tree_cases.trees_cases():
         if what == tree_cases.CALLS:
-            called, (_, row) = tree_vectors.calls_of(case)
-            rows = [row or 0 for row in [*(one for one, _ in called), row]]
-            yield f"calls {case}", rows, case.rows
+            called, (_, last) = tree_vectors.calls_of(case)
+            numbers = [number or 0 for number in [*(one for one, _ in called), last]]
+            yield f"calls {case}", numbers, case.refusals
     yield fitting(tree_cases.SECTIONS)
 
 
@@ -367,26 +367,27 @@ def replacements() -> Iterator[Check]:
     the end the store is what building writes from the book."""
     for _, case in tree_cases.replacements_cases():
         s, leaves = case.tree.case.handed(), case.tree.leaves.numbers(tree_cases.TREE_PLACES)
-        (row, store), calls = tree_vectors.called_in_order(case)
-        book = [] if row else merkle.open_book(s, leaves)
+        (number, store), calls = tree_vectors.called_in_order(case)
+        book = [] if number else merkle.open_book(s, leaves)
         for call, (answer, after) in zip(case.calls, calls):
-            wanted = ("refused", call.row) if call.row else ("count", s.height)
+            wanted = ("refused", call.refusal) if call.refusal else ("count", s.height)
             yield f"replace {call} of {case.tree}", answer, wanted
-            if call.row:
+            if call.refusal:
                 kept = store[: call.fault - 1] + [call.value] + store[call.fault :]
                 yield f"{call} keeps", after, kept if call.fault else store
             else:
                 merkle.book_replace(s, book, call.place, call.leaf.numbers(tree_cases.LEAF_PLACES))
             store = list(after)
-        yield f"store of {case.tree}", store, [7] * 6 if row else built(s, merkle.book_leaves(book))
+        wanted = [7] * 6 if number else built(s, merkle.book_leaves(book))
+        yield f"store of {case.tree}", store, wanted
 
 
 def extractions() -> Iterator[Check]:
     """Each extraction is refused with its number and keeps both buffers, or gives its level."""
     for _, one in tree_cases.extractions_cases():
         answer, first, second = tree_vectors.extracted(one)
-        if one.row:
-            yield f"extract {one}", answer, ("refused", one.row)
+        if one.refusal:
+            yield f"extract {one}", answer, ("refused", one.refusal)
             yield f"{one} keeps", (first, second), tuple([7] * length for length in one.rows)
         else:
             yield f"extract {one}", answer, ("level", one.level)
@@ -467,7 +468,7 @@ def histories() -> Iterator[Check]:
         book = merkle.open_book(s, leaves)
         for i, call in enumerate(one.calls):
             kind, number = history_vectors.called(s, call, store)
-            yield f"{n}, row of call {i}", number if kind == "refused" else 0, call.row
+            yield f"{n}, refusal of call {i}", number if kind == "refused" else 0, call.refusal
             yield f"{n}, call {i}", history_vectors.booked(s, call, book), (kind, number)
         yield f"{n}, store", store, built(s, merkle.book_leaves(book))
 
@@ -503,24 +504,24 @@ def tree_refusals() -> Iterator[Check]:
     six = [P] * 6
 
     yield "build, leaves", merkle.build(s, [P] * 7, [0] * 14), ("refused", 10)
-    lent = [9] * 13
-    yield "build, store", merkle.build(s, [P] * 8, lent), ("refused", 10)
-    yield "build keeps", lent, [9] * 13
-    lent = [9] * 14
-    yield "build, word", merkle.build(s, [0] * 7 + [P], lent), ("refused", 12)
-    yield "build keeps the store", lent, [9] * 14
+    buffer = [9] * 13
+    yield "build, store", merkle.build(s, [P] * 8, buffer), ("refused", 10)
+    yield "build keeps", buffer, [9] * 13
+    buffer = [9] * 14
+    yield "build, word", merkle.build(s, [0] * 7 + [P], buffer), ("refused", 12)
+    yield "build keeps the store", buffer, [9] * 14
     yield "root, store", merkle.root(s, store + [0]), ("refused", 10)
     yield "root, word", merkle.root(s, store[:-1] + [P]), ("refused", 12)
     yield "storeless, leaves", merkle.storeless_root(s, [P] * 9), ("refused", 10)
 
-    lent = [9] * 4
-    yield "opening, store", merkle.opening(s, store[1:], 4, lent), ("refused", 10)
+    buffer = [9] * 4
+    yield "opening, store", merkle.opening(s, store[1:], 4, buffer), ("refused", 10)
     yield "opening, buffer", merkle.opening(s, store, 4, [9] * 3), ("refused", 10)
     spoiled = store[:2] + bad + store[4:]
-    yield "opening, place", merkle.opening(s, spoiled, 4, lent), ("refused", 11)
-    yield "opening, word", merkle.opening(s, spoiled, 0, lent), ("refused", 12)
-    yield "opening keeps", lent, [9] * 4
-    yield "opening, not copied", merkle.opening(s, spoiled, 1, lent), ("done", None)
+    yield "opening, place", merkle.opening(s, spoiled, 4, buffer), ("refused", 11)
+    yield "opening, word", merkle.opening(s, spoiled, 0, buffer), ("refused", 12)
+    yield "opening keeps", buffer, [9] * 4
+    yield "opening, not copied", merkle.opening(s, spoiled, 1, buffer), ("done", None)
 
     yield "reader, length", merkle.read_opening(s, six, 2), ("refused", 10)
     yield "reader, level", merkle.read_opening(s, [0, 0] + bad, 2), ("refused", 11)
@@ -533,28 +534,28 @@ def tree_refusals() -> Iterator[Check]:
     yield "verdict, place", merkle.verify(s, root, 4, bad, siblings), ("refused", 11)
     yield "verdict, word", merkle.verify(s, root, 3, bad, siblings), ("refused", 12)
 
-    lent = list(spoiled)
-    yield "replace, store", merkle.replace(s, lent[1:], 4, bad), ("refused", 10)
-    yield "replace, leaf", merkle.replace(s, lent, 4, [P]), ("refused", 10)
-    yield "replace, place", merkle.replace(s, lent, 4, bad), ("refused", 11)
-    yield "replace, word", merkle.replace(s, lent, 3, bad), ("refused", 12)
-    yield "replace, sibling", merkle.replace(s, lent, 0, leaf), ("refused", 12)
-    yield "replace keeps", lent, spoiled
-    yield "replace, not read", merkle.replace(s, lent, 1, [3, 4]), ("count", 2)
-    yield "replace mends its place", lent, store
+    buffer = list(spoiled)
+    yield "replace, store", merkle.replace(s, buffer[1:], 4, bad), ("refused", 10)
+    yield "replace, leaf", merkle.replace(s, buffer, 4, [P]), ("refused", 10)
+    yield "replace, place", merkle.replace(s, buffer, 4, bad), ("refused", 11)
+    yield "replace, word", merkle.replace(s, buffer, 3, bad), ("refused", 12)
+    yield "replace, sibling", merkle.replace(s, buffer, 0, leaf), ("refused", 12)
+    yield "replace keeps", buffer, spoiled
+    yield "replace, not read", merkle.replace(s, buffer, 1, [3, 4]), ("count", 2)
+    yield "replace mends its place", buffer, store
 
-    lent = list(spoiled)
-    yield "push, store", merkle.push(s, lent[1:], [(4, six)]), ("refused", 10)
-    yield "push, place", merkle.push(s, lent, [(0, six), (4, six)]), ("refused", 11)
-    yield "push, whole store", merkle.push(s, lent, [(1, [0] * 6)]), ("refused", 12)
-    yield "push keeps", lent, spoiled
-    lent = list(store)
-    got = merkle.push(s, lent, [(0, [0] * 6), (1, [0, P, 0, 0, 0, 0])])
+    buffer = list(spoiled)
+    yield "push, store", merkle.push(s, buffer[1:], [(4, six)]), ("refused", 10)
+    yield "push, place", merkle.push(s, buffer, [(0, six), (4, six)]), ("refused", 11)
+    yield "push, whole store", merkle.push(s, buffer, [(1, [0] * 6)]), ("refused", 12)
+    yield "push keeps", buffer, spoiled
+    buffer = list(store)
+    got = merkle.push(s, buffer, [(0, [0] * 6), (1, [0, P, 0, 0, 0, 0])])
     yield "push, used word", got, ("refused", 12)
-    yield "push keeps the store", lent, store
-    yield "push, unused words", merkle.push(s, lent, [(0, leaf + bad * 2)]), ("count", 2)
-    yield "push of none", merkle.push(s, lent, []), ("count", 0)
-    yield "push changed nothing", lent, store
+    yield "push keeps the store", buffer, store
+    yield "push, unused words", merkle.push(s, buffer, [(0, leaf + bad * 2)]), ("count", 2)
+    yield "push of none", merkle.push(s, buffer, []), ("count", 0)
+    yield "push changed nothing", buffer, store
 
 
 def program_refusals() -> Iterator[Check]:
@@ -572,13 +573,13 @@ def program_refusals() -> Iterator[Check]:
         ("an end after C", whole[:136], 10),
         ("a leaf short", whole[:-16], 10),
         ("a word more", whole + bytes(8), 10),
-        ("a low row, cut short", program_input([4, 2, 33, 2, 0]), 5),
+        ("a low number, cut short", program_input([4, 2, 33, 2, 0]), 5),
         ("not a word, cut short", program_input([4, 2, 1, 2, 0, P]), 6),
         ("not a word in D", program_input(T_NUMBERS[:5] + [P] + T_NUMBERS[6:]), 7),
         ("a leaf of p", program_input(T_NUMBERS + [1, 0, 0, P]), 12),
     ]
-    for name, data, row in cases:
-        yield name, program.run(data), f"refused {row}\n".encode()
+    for name, data, number in cases:
+        yield name, program.run(data), f"refused {number}\n".encode()
 
 
 GROUPS = [
@@ -587,12 +588,12 @@ GROUPS = [
     ("worked: permutation", worked_permutation),
     ("worked: tree", worked_tree),
     ("worked: program", worked_program),
-    ("worked: judge", worked_judge),
+    ("worked: validation", worked_validation),
     ("worked: place", worked_place),
     ("worked: word", worked_word),
     ("published instances", published_instances),
     ("field rules", field_rules),
-    ("judge rows", judge_rows),
+    ("validation refusals", validation_refusals),
     ("handed sets", handed_sets),
     ("inverse permutations", inverse_permutations),
     ("vectors' cases", vectors_cases),

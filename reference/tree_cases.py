@@ -82,13 +82,13 @@ class Tree:
 
 @dataclass
 class Calls:
-    """A set, and what each of the entries of a tree is handed; `rows` are the numbers that refuse
-    build, root, storeless_root, open and verify, 0 for none."""
+    """A set, and what each of the entries of a tree is handed; `refusals` are the numbers with
+    which build, root, storeless_root, open and verify refuse it, 0 for none."""
 
     case: Case
     lists: dict[str, Listed]
     place: int
-    rows: list[int]
+    refusals: list[int]
 
     def line(self, what: int) -> list[int]:
         """The line that asks for this."""
@@ -149,7 +149,7 @@ CallFault = tuple[str, int, int | None]
 
 
 def seeded_calls(
-    base: tuple[int, int, int], faults: list[CallFault], rows: str, place: int = 0
+    base: tuple[int, int, int], faults: list[CallFault], refusals: str, place: int = 0
 ) -> Calls:
     """Lists of the right lengths, but for the faults."""
     t, l, h = base
@@ -160,7 +160,7 @@ def seeded_calls(
         lists[name].count += by
         if at_place is not None:
             lists[name].write(at_place, P)
-    return Calls(seeded(t, l, h, 2, 0, 5), lists, place, [int(row) for row in rows.split()])
+    return Calls(seeded(t, l, h, 2, 0, 5), lists, place, [*map(int, refusals.split())])
 
 
 def refused_lengths() -> Iterator[Calls]:
@@ -206,9 +206,9 @@ def refused_twice() -> Iterator[Calls]:
 def refused_sets() -> Iterator[Calls]:
     """A set that is refused, and a fault more."""
     base = (4, 2, 1)
-    for row, ways in set_faults(seeded(*base, 2, 0, 5)).items():
-        more = [("leaves", row % 2, 0), ("siblings", 0, 0)] if row in (1, 5, 9) else []
-        calls = seeded_calls(base, more, " ".join([str(row)] * 5), row % 3)
+    for number, ways in set_faults(seeded(*base, 2, 0, 5)).items():
+        more = [("leaves", number % 2, 0), ("siblings", 0, 0)] if number in (1, 5, 9) else []
+        calls = seeded_calls(base, more, " ".join([str(number)] * 5), number % 3)
         turned(ways, 0)(calls.case)
         yield calls
 
@@ -236,7 +236,7 @@ class Replacement:
     leaf: Listed
     fault: int = 0
     value: int = 0
-    row: int = 0
+    refusal: int = 0
 
     def text(self) -> list[int]:
         """Its numbers in the input."""
@@ -268,16 +268,16 @@ class Caller:
         """A drawn place."""
         return next(self.drawn) % self.tree.places
 
-    def call(self, place: int, row: int = 0, fault: int = 0, value: int = P) -> Replacement:
+    def call(self, place: int, refusal: int = 0, fault: int = 0, value: int = P) -> Replacement:
         """A call that is refused for the store's fault, or not at all."""
         leaf = Listed(self.tree.case.node_size, next(self.drawn) % 1000)
-        return Replacement(self.tree.store, place, leaf, fault, value if fault else 0, row)
+        return Replacement(self.tree.store, place, leaf, fault, value if fault else 0, refusal)
 
     def faulty(
-        self, row: int, place: int, longer: int = 0, store: int = 0, word: int | None = None
+        self, refusal: int, place: int, longer: int = 0, store: int = 0, word: int | None = None
     ) -> Replacement:
         """A call that is refused for its arguments."""
-        call = self.call(place, row)
+        call = self.call(place, refusal)
         call.store += store
         call.leaf.count += longer
         if word is not None:
@@ -346,10 +346,10 @@ def seeded_replacements() -> Iterator[Replacements]:
 
 def replacements_in_refused_sets() -> Iterator[Replacements]:
     """A set that is refused, for a call without a fault and for one with a fault more."""
-    for row, ways in set_faults(seeded(4, 2, 1, 2, 0, 5)).items():
+    for number, ways in set_faults(seeded(4, 2, 1, 2, 0, 5)).items():
         tree = seeded_tree(4, 2, 1, 2, 0, 5)
-        caller = Caller(tree, row)
-        calls = [caller.call(0, row), caller.faulty(row, 2, longer=1, word=0)]
+        caller = Caller(tree, number)
+        calls = [caller.call(0, number), caller.faulty(number, 2, longer=1, word=0)]
         turned(ways, 1)(tree.case)
         yield Replacements(tree, calls)
 
@@ -373,7 +373,7 @@ class Extraction:
     lists: dict[str, Listed]
     place: int
     rows: list[int]
-    row: int = 0
+    refusal: int = 0
     level: int = 0
 
     def line(self, what: int) -> list[int]:
@@ -523,12 +523,12 @@ def twin(one: Extraction) -> None:
     copied("first_siblings", "second_siblings")(one)
 
 
-def turned_back(base: Extraction, row: int, *faults: ExtractionFault) -> Extraction:
+def refused(base: Extraction, number: int, *faults: ExtractionFault) -> Extraction:
     """The extraction with these faults."""
     one = deepcopy(base)
     for fault in faults:
         fault(one)
-    one.row = row
+    one.refusal = number
     return one
 
 
@@ -546,21 +546,21 @@ def extractions_of_lists() -> Iterator[Extraction]:
     yield base
     for by in (-1, 1):
         for name in OFFERED:
-            yield turned_back(base, 10, resized(name, by))
+            yield refused(base, 10, resized(name, by))
         for which in range(2):
-            yield turned_back(base, 10, resized_row(which, by))
+            yield refused(base, 10, resized_row(which, by))
     for place in (4, LARGEST):
-        yield turned_back(base, 11, placed(place))
+        yield refused(base, 11, placed(place))
     for name in OFFERED:
-        yield turned_back(base, 12, spoilt(name, 0))
-        yield turned_back(base, 12, spoilt(name, -1, LARGEST))
+        yield refused(base, 12, spoilt(name, 0))
+        yield refused(base, 12, spoilt(name, -1, LARGEST))
     bad = spoilt("second", 0)
-    yield turned_back(base, 10, resized_row(1, 1), placed(4), bad)
-    yield turned_back(base, 10, bad, resized("second_siblings", -1))
-    yield turned_back(base, 11, placed(4), bad)
-    yield turned_back(base, 12, spoilt("first", 0), twin)
-    for row, ways in set_faults(base.case).items():
-        one = turned_back(base, row, *([bad, resized("root", 1)] if row % 2 == 1 else [twin]))
+    yield refused(base, 10, resized_row(1, 1), placed(4), bad)
+    yield refused(base, 10, bad, resized("second_siblings", -1))
+    yield refused(base, 11, placed(4), bad)
+    yield refused(base, 12, spoilt("first", 0), twin)
+    for number, ways in set_faults(base.case).items():
+        one = refused(base, number, *([bad, resized("root", 1)] if number % 2 == 1 else [twin]))
         turned(ways, 2)(one.case)
         yield one
 
@@ -569,30 +569,30 @@ def refused_openings() -> Iterator[Extraction]:
     """10 to 15 on openings that collide."""
     base = extraction(meeting_at(4, 2, 1, 0, 0))
     for fault in (resized("root", 1), resized("first_siblings", 1), resized_row(0, 1)):
-        yield turned_back(base, 10, fault)
-    yield turned_back(base, 11, placed(2))
+        yield refused(base, 10, fault)
+    yield refused(base, 11, placed(2))
     for name in OFFERED:
-        yield turned_back(base, 14, damaged(name))
-    yield turned_back(base, 14, damaged("first"), damaged("second_siblings"))
-    yield turned_back(base, 14, damaged("first"), twin)
-    yield turned_back(base, 15, twin)
-    yield turned_back(extraction(meeting_at(4, 1, 3, 2, 0)), 14, damaged("second_siblings"))
+        yield refused(base, 14, damaged(name))
+    yield refused(base, 14, damaged("first"), damaged("second_siblings"))
+    yield refused(base, 14, damaged("first"), twin)
+    yield refused(base, 15, twin)
+    yield refused(extraction(meeting_at(4, 1, 3, 2, 0)), 14, damaged("second_siblings"))
     # p is not another zero.
     zero = extraction(nodes_apart(4, 1, 1, (0,)))
-    yield turned_back(zero, 12, spoilt("first_siblings", -1))
-    yield turned_back(zero, 12, spoilt("second_siblings", -1))
+    yield refused(zero, 12, spoilt("first_siblings", -1))
+    yield refused(zero, 12, spoilt("second_siblings", -1))
     # The leaves are equal, and their rows collide.
-    yield turned_back(extraction(nodes_apart(4, 2, 1, (1,))), 15)
+    yield refused(extraction(nodes_apart(4, 2, 1, (1,))), 15)
 
 
 def extractions_of_one_leaf() -> Iterator[Extraction]:
     """Height 0: a leaf is accepted if it is the root, so two leaves that differ never are."""
     for t, l in ((4, 2), (12, 6)):
         case = seeded(t, l, 0, 2, 0, 5)
-        for seeds, row in (((1, 1, 1), 15), ((1, 1, 2), 14), ((1, 2, 1), 14), ((1, 2, 2), 14)):
+        for seeds, number in (((1, 1, 1), 15), ((1, 1, 2), 14), ((1, 2, 1), 14), ((1, 2, 2), 14)):
             root, first, second = (Listed(l, seed) for seed in seeds)
             lists = dict(zip(OFFERED, (root, first, Listed(0, 0), second, Listed(0, 0))))
-            yield Extraction(case, lists, 0, [t, t], row)
+            yield Extraction(case, lists, 0, [t, t], number)
 
 
 def extractions_cases() -> Iterator[tuple[int, Extraction]]:

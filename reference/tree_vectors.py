@@ -60,8 +60,8 @@ def written(entry: Callable, s: ParameterSet, *arguments: object) -> Called:
     """An entry that writes to its last argument."""
     *others, before = arguments
     after = list(before)
-    kind, row = entry(s, *others, after)
-    return (row if kind == "refused" else None, after)
+    kind, number = entry(s, *others, after)
+    return (number if kind == "refused" else None, after)
 
 
 def node_of(entry: Callable, s: ParameterSet, words: list[int], node: list[int]) -> Called:
@@ -74,13 +74,13 @@ def node_of(entry: Callable, s: ParameterSet, words: list[int], node: list[int])
     return (answer, node) if kind == "refused" else (None, answer)
 
 
-def verdict(kind: str, row: int | None) -> str:
+def verdict(kind: str, number: int | None) -> str:
     """A verdict's words."""
-    return f"refused {row}" if kind == "refused" else kind
+    return f"refused {number}" if kind == "refused" else kind
 
 
 def damaged_verdicts(s: ParameterSet, place: int, words: list[int]) -> list[str]:
-    """The kinds of verdict on a root, a leaf and siblings in a row, each word damaged in turn."""
+    """The kinds of verdict on a root, a leaf and siblings, each word damaged in turn."""
     l = s.node_size
     kinds = []
     for i, word in enumerate(words):
@@ -147,9 +147,9 @@ def replaced(s: ParameterSet, call: Replacement, store: list[int]) -> Answer:
     """The answer of a replacement, on a store that it may change."""
     if call.fault:
         store[call.fault - 1] = call.value
-    lent = store[: call.store] + [7] * (call.store - len(store))
-    answer = merkle.replace(s, lent, call.place, call.leaf.numbers(tree_cases.LEAF_PLACES))
-    store[:] = lent[: len(store)] + store[call.store :]
+    handed = store[: call.store] + [7] * (call.store - len(store))
+    answer = merkle.replace(s, handed, call.place, call.leaf.numbers(tree_cases.LEAF_PLACES))
+    store[:] = handed[: len(store)] + store[call.store :]
     return answer
 
 

@@ -235,14 +235,14 @@ def to_node(s: ParameterSet, state: list[int], length: int) -> Called:
 
 def in_full(called: Called) -> str:
     """The buffer's numbers, or the refusal."""
-    row, buffer = called
-    return " ".join(["=", *map(str, buffer)]) if row is None else f"refused {row} kept"
+    number, buffer = called
+    return " ".join(["=", *map(str, buffer)]) if number is None else f"refused {number} kept"
 
 
 def as_digest(called: Called) -> str:
     """The digest of the buffer's numbers, or the refusal."""
-    row, buffer = called
-    return str(digest(buffer)) if row is None else f"refused {row} kept"
+    number, buffer = called
+    return str(digest(buffer)) if number is None else f"refused {number} kept"
 
 
 def states_line(what: int, case: Case) -> str:

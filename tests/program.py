@@ -121,9 +121,9 @@ def words_changed() -> Iterator[Input]:
         for value in [0, P - 1, P, LARGEST]:
             yield f"number {place} is {value}", packed(changed(worked(), place, value))
     cancelling = worked()[:5] + [P - 4] * 4 + worked()[9:]
-    yield "row 9", packed(cancelling)
-    yield "row 9, and a leaf not a word", packed(changed(cancelling, 17, P))
-    yield "row 9, and a leaf too many", packed(cancelling + [0, 0])
+    yield "refusal 9", packed(cancelling)
+    yield "refusal 9, and a leaf not a word", packed(changed(cancelling, 17, P))
+    yield "refusal 9, and a leaf too many", packed(cancelling + [0, 0])
     yield "a leaf too many, and one not a word", packed(worked() + [P, 0])
     yield "a zero in D, and C not words", packed(changed(changed(worked(), 5, 0), 9, P))
 
