@@ -53,7 +53,7 @@ module _ (s : ParameterSet) (valid : firstRefusal (setRefusals p s) ≡ 0) where
       let store = storeOf s xs in
       subst (λ (z : List ℕ). Faithful s (record { store = z; answers = left .answers }) xs answers) (sym e)
       (record {
-        stored = λ lent g. (builds s valid xs L lent g, written-after lent store (builds s valid xs L lent g));
+        stored = λ buffer g. (builds s valid xs L buffer g, written-after buffer store (builds s valid xs L buffer g));
         answered = f;
         own = λ q b buffer g. (
           opens s valid xs L q b buffer g,
@@ -64,9 +64,9 @@ module _ (s : ParameterSet) (valid : firstRefusal (setRefusals p s) ≡ 0) where
       })
 
 pub demand3 : Demand3
-demand3 s leaves lent e calls T =
-    let B = begun s leaves lent e in
+demand3 s leaves buffer e calls T =
+    let B = begun s leaves buffer e in
     let W = whole s (B .set) calls leaves T (B .given) in
-    faithful s (B .set) (bookLeaves p s calls leaves) (run p s calls (built p s leaves lent)) (bookAnswers p s calls) (W .leaves)
+    faithful s (B .set) (bookLeaves p s calls leaves) (run p s calls (built p s leaves buffer)) (bookAnswers p s calls) (W .leaves)
     (ap (λ (z : List ℕ). run p s calls z .store) (B .written) ∙ W .store)
     (ap (λ (z : List ℕ). run p s calls z .answers) (B .written) ∙ W .answers)

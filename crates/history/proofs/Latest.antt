@@ -128,8 +128,8 @@ book-leaves s valid (push rs ∷ cs) xs T L =
     book-leaves s valid cs (bookAfter p s (push rs) xs) (T .1) (push-leaves s valid xs L rs (T .0))
 
 pub latest : Latest
-latest s leaves lent e calls T =
-    let B = begun s leaves lent e in
+latest s leaves buffer e calls T =
+    let B = begun s leaves buffer e in
     record {
       whole = book-leaves s (B .set) calls leaves T (B .given) .long;
       each = λ q inside. each s (B .set) q inside calls leaves T (B .given);

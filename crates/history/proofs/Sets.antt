@@ -74,12 +74,12 @@ module _ (s : ParameterSet) (valid : firstRefusal (setRefusals p s) ≡ 0) (xs :
   store-words = words s valid .built (s .height) xs (L .long) (L .wordy)
 
   -- building writes it into any store of the exact length
-  pub builds : (lent : List ℕ) → length lent ≡ storeWords p s → buildReply p s xs lent ≡ done []
+  pub builds : (buffer : List ℕ) → length buffer ≡ storeWords p s → buildReply p s xs buffer ≡ done []
   unfolding buildReply buildRefusals
-  builds lent e =
-      reply-done (buildRefusals p s xs lent) [] (build-numbered s xs lent)
-      (two.at-none p (setRefusals p s) (set-numbered p s) (not (has xs (leafWords p s) && has lent (storeWords p s))) xs valid
-      (ap not (and-true (has xs (leafWords p s)) (has lent (storeWords p s)) (eq-eqb (length xs) (leafWords p s) (L .long)) (eq-eqb (length lent) (storeWords p s) e)))
+  builds buffer e =
+      reply-done (buildRefusals p s xs buffer) [] (build-numbered s xs buffer)
+      (two.at-none p (setRefusals p s) (set-numbered p s) (not (has xs (leafWords p s) && has buffer (storeWords p s))) xs valid
+      (ap not (and-true (has xs (leafWords p s)) (has buffer (storeWords p s)) (eq-eqb (length xs) (leafWords p s) (L .long)) (eq-eqb (length buffer) (storeWords p s) e)))
       (L .wordy))
 
   pub leaf-long : (q : ℕ) → q < leafCount p s → length (leafAt s q xs) ≡ s .«node_size»

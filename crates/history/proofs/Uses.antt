@@ -36,8 +36,8 @@ zeros-long : (n : ℕ) → length (zeros n) ≡ n
 zeros-long n = length-replicate n 0
 
 root-of-book : RootOfBook
-root-of-book s leaves lent e calls T =
-    let written = demand3 s leaves lent e calls T .stored (zeros (storeWords p s)) (zeros-long (storeWords p s)) in
+root-of-book s leaves blank e calls T =
+    let written = demand3 s leaves blank e calls T .stored (zeros (storeWords p s)) (zeros-long (storeWords p s)) in
     let B = begun s (bookLeaves p s calls leaves) (zeros (storeWords p s)) (written .0) in
     ap (rootOf s) (written .1 ∙ B .written) ∙ sym (laws s (B .set) .storeless .agrees (s .height) (bookLeaves p s calls leaves) (B .given .long))
 
@@ -48,20 +48,20 @@ counted s c z = reply-done (bookRefusals p s c) (bookCount p s c ∷ []) (book-n
 
 counts : Counts
 unfolding bookAnswers bookRefusals bookCount
-counts s leaves lent e rs sixes few places used q leaf long inside wordy =
+counts s leaves blank e rs sixes few places used q leaf long inside wordy =
     let a : firstRefusal (bookRefusals p s (push rs)) ≡ 0 =
     three.at-words p [] none (not (fewRecords rs)) (not (placesBelow (leafCount p s) rs)) (usedWords (s .«node_size») rs) no-row (ap not (le-leb (length rs) (2 ^ 32) few)) (ap not places)
     ∙ three.no-twelve p (usedWords (s .«node_size») rs) used in
     let b : firstRefusal (bookRefusals p s (replacement q leaf)) ≡ 0 =
     three.at-words p [] none (not (has leaf (s .«node_size»))) (not (ltb q (leafCount p s))) leaf no-row (ap not (eq-eqb (length leaf) (s .«node_size») long)) (ap not (lt-ltb q (leafCount p s) inside))
     ∙ three.no-twelve p leaf wordy in
-    demand3 s leaves lent e (push rs ∷ replacement q leaf ∷ []) (sixes, tt) .answered
+    demand3 s leaves blank e (push rs ∷ replacement q leaf ∷ []) (sixes, tt) .answered
     ∙ ap₂ (λ (x y : Reply). x ∷ y ∷ []) (counted s (push rs) a) (counted s (replacement q leaf) b)
 
 own-accepted : OwnAccepted
-own-accepted s leaves lent e calls T q inside buffer long =
-    ap (λ (top : List ℕ). verifyReply p s top q (leafAt s q (bookLeaves p s calls leaves)) (opened p s (run p s calls (built p s leaves lent) .store) q buffer)) (sym (root-of-book s leaves lent e calls T))
-    ∙ demand3 s leaves lent e calls T .own q inside buffer long .1
+own-accepted s leaves blank e calls T q inside buffer long =
+    ap (λ (top : List ℕ). verifyReply p s top q (leafAt s q (bookLeaves p s calls leaves)) (opened p s (run p s calls (built p s leaves blank) .store) q buffer)) (sym (root-of-book s leaves blank e calls T))
+    ∙ demand3 s leaves blank e calls T .own q inside buffer long .1
 
 -- what extraction writes where it answers a level
 rows-of : (s : ParameterSet) (two : Pair) (first second : List ℕ) {result : List ℕ} → extractReply p s two first second ≡ done result
@@ -71,14 +71,14 @@ rows-of s two first second e =
     written s two first second (reply-none (extractRefusals p s two first second) (levelOf (collision p s two) ∷ []) _ e) .rows
 
 other-collides : OtherCollides
-other-collides s leaves lent e calls T q inside leaf siblings n v =
-    let C = demand3 s leaves lent e calls T .other q inside (zeros (openingWords p s)) (zeros-long (openingWords p s)) leaf siblings n
+other-collides s leaves blank e calls T q inside leaf siblings n v =
+    let C = demand3 s leaves blank e calls T .other q inside (zeros (openingWords p s)) (zeros-long (openingWords p s)) leaf siblings n
     (zeros (s .width)) (zeros (s .width)) (zeros-long (s .width)) (zeros-long (s .width)) .0 v in
     record { first = _; second = _; rows = rows-of _ _ _ _ (C .answered); differ = C .differ; alike = C .alike }
 
 only-accepted : OnlyAccepted
-only-accepted s leaves lent e calls T q inside leaf siblings n unaccepted buffer first second lb lf ls C =
-    unaccepted (demand3 s leaves lent e calls T .other q inside buffer lb leaf siblings n first second lf ls .1 C)
+only-accepted s leaves blank e calls T q inside leaf siblings n unaccepted buffer first second lb lf ls C =
+    unaccepted (demand3 s leaves blank e calls T .other q inside buffer lb leaf siblings n first second lf ls .1 C)
 
 pub uses : Uses
 uses =

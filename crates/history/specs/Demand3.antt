@@ -29,8 +29,8 @@ rootOf s store = root (treeOf p s) store
 -- What holds after a list of calls, of the store and the answers that it left and of the book's leaves and answers.
 pub record Faithful (s : ParameterSet) (left : Ran) (book : List ℕ) (answers : List Reply) : Type 0 where
   -- Building from the book's leaves, into any buffer of the exact length, is not refused and writes the store that was left.
-  pub stored : (lent : List ℕ) → length lent ≡ storeWords p s
-      → (buildReply p s book lent ≡ done []) × (left .store ≡ built p s book lent)
+  pub stored : (buffer : List ℕ) → length buffer ≡ storeWords p s
+      → (buildReply p s book buffer ≡ done []) × (left .store ≡ built p s book buffer)
   -- The answers are the book's, in order.
   pub answered : left .answers ≡ answers
   -- For every place the opening is written, and with it the book's leaf is accepted under the store's root.
@@ -51,6 +51,6 @@ pub record Faithful (s : ParameterSet) (left : Ran) (book : List ℕ) (answers :
 -- For every set, leaves and buffer with which building is not refused (Rules 6.1), and every list of calls.
 abbrev pub Demand3 : Type 0
 Demand3 =
-    (s : ParameterSet) (leaves lent : List ℕ) → buildReply p s leaves lent ≡ done []
+    (s : ParameterSet) (leaves buffer : List ℕ) → buildReply p s leaves buffer ≡ done []
     → (calls : List Call) → Typed calls
-    → Faithful s (run p s calls (built p s leaves lent)) (bookLeaves p s calls leaves) (bookAnswers p s calls)
+    → Faithful s (run p s calls (built p s leaves buffer)) (bookLeaves p s calls leaves) (bookAnswers p s calls)

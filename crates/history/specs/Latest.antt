@@ -42,6 +42,6 @@ pub record IsLatest (s : ParameterSet) (leaves book : List ℕ) (changes : List 
 
 abbrev pub Latest : Type 0
 Latest =
-    (s : ParameterSet) (leaves lent : List ℕ) → buildReply p s leaves lent ≡ done []
+    (s : ParameterSet) (leaves buffer : List ℕ) → buildReply p s leaves buffer ≡ done []
     → (calls : List Call) → Typed calls
     → IsLatest s leaves (bookLeaves p s calls leaves) (accepted p s calls)

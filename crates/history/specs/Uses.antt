@@ -24,8 +24,8 @@ use Rattle.history.specs.Demand3.{Typed, rootOf}
 -- whatever list of calls is done on whatever built store, with what it left and the book's leaves
 abbrev pub AfterCalls : (ParameterSet → Ran → List ℕ → Type 0) → Type 0
 AfterCalls P =
-    (s : ParameterSet) (leaves lent : List ℕ) → buildReply p s leaves lent ≡ done []
-    → (calls : List Call) → Typed calls → P s (run p s calls (built p s leaves lent)) (bookLeaves p s calls leaves)
+    (s : ParameterSet) (leaves buffer : List ℕ) → buildReply p s leaves buffer ≡ done []
+    → (calls : List Call) → Typed calls → P s (run p s calls (built p s leaves buffer)) (bookLeaves p s calls leaves)
 
 -- The root is the storeless root of the book's leaves.
 abbrev pub RootOfBook : Type 0
@@ -34,10 +34,10 @@ RootOfBook = AfterCalls (λ s left book. rootOf s (left .store) ≡ storelessRoo
 -- A push that nothing refuses answers h for each record, and a replacement h.
 abbrev pub Counts : Type 0
 Counts =
-    (s : ParameterSet) (leaves lent : List ℕ) → buildReply p s leaves lent ≡ done []
+    (s : ParameterSet) (leaves buffer : List ℕ) → buildReply p s leaves buffer ≡ done []
     → (rs : List Record) → SixWords rs → length rs ≤ 2 ^ 32 → placesBelow (leafCount p s) rs ≡ true → allWords p (usedWords (s .«node_size») rs) ≡ true
     → (q : ℕ) (leaf : List ℕ) → length leaf ≡ s .«node_size» → q < leafCount p s → allWords p leaf ≡ true
-    → run p s (push rs ∷ replacement q leaf ∷ []) (built p s leaves lent) .answers ≡ done (s .height * length rs ∷ []) ∷ done (s .height ∷ []) ∷ []
+    → run p s (push rs ∷ replacement q leaf ∷ []) (built p s leaves buffer) .answers ≡ done (s .height * length rs ∷ []) ∷ done (s .height ∷ []) ∷ []
 
 -- Under the storeless root of the book's leaves each of them is accepted, with the opening of its place.
 abbrev pub OwnAccepted : Type 0

@@ -1,4 +1,4 @@
--- What holds of numbers and lists that no row turns down.
+-- What holds of numbers and lists that are not refused.
 use mathlib.Core.Path.{_≡_, refl, sym, _∙_}
 use mathlib.Core.Logic.{_≢_, inl, inr}
 use mathlib.Core.Bool.{Bool, true, false, not, _&&_, _||_, false≢true}
@@ -41,7 +41,7 @@ width-fits t (inl e) = omega arith
 width-fits t (inr (inl e)) = omega arith
 width-fits t (inr (inr e)) = omega arith
 
--- "Node size l divides t; arity k = t / l, at least 2."
+-- The node size divides the width, and the arity is 2 or more.
 pub record NodeSize (t l : ℕ) : Type 0 where
   pub positive : l ≢ 0
   pub divides : t % l ≡ 0
@@ -61,7 +61,7 @@ node-size-of t l e =
 pub arity-bounds : (t l : ℕ) → badWidth t ≡ false → badNodeSize t l ≡ false → (1 ≤ t / l) × (t / l ≤ 12)
 arity-bounds t l e f = (omega (arith, node-size-of t l f .several), omega (arith, div-le-self t l, width-fits t (width-of t e)))
 
--- "R_F is even, 2 to 12; R_P is 0 to 64."
+-- The full rounds are even, 2 to 12, the partial ones at most 64.
 pub record Rounds (rf rp : ℕ) : Type 0 where
   pub even : rf % 2 ≡ 0
   pub some : 2 ≤ rf
@@ -77,7 +77,7 @@ rounds-of rf rp e f =
     let nought : rf ≢ 0 = eqb-false rf 0 (b .1) in
     record { even = omega arith; some = omega arith; few = ltb-false 12 rf (a .1); fewPartial = ltb-false 64 rp f }
 
--- "Height h is 0 to 32 with k^h at most 2^32."
+-- The height is at most 32, and the leaves at most 2^32.
 pub record Height (k h : ℕ) : Type 0 where
   pub low : h ≤ 32
   pub leaves : k ^ h ≤ 4294967296

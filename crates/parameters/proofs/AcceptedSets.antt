@@ -1,4 +1,4 @@
--- What the core is handed under a set that no row turns down.
+-- What the core is handed under a set that is accepted.
 use mathlib.Core.Path.{_≡_}
 use mathlib.Core.Bool.{true}
 use mathlib.Core.List.{List}

@@ -1,4 +1,4 @@
--- Row 9 without inversions: with `all` the product of the first i of D, and `but-one` the sum of the products that leave one of them
+-- Refusal 9 without inversions: with `all` the product of the first i of D, and `but-one` the sum of the products that leave one of them
 -- out, `but-one` is `all` times the sum of their inverses.
 use mathlib.Core.Path.{_≡_, refl, sym, ap, _∙_}
 use mathlib.Core.Logic.{_≢_, _⊎_, ⊎-elim}

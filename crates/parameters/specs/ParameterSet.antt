@@ -1,4 +1,4 @@
--- Document 01, "Set": the parameter set, what is read of one that is handed in, and what validation answers.
+-- The parameter set (Rules 2): what is read of one that is handed in, and what validation answers.
 use mathlib.Core.Bool.{cond}
 use mathlib.Core.List.{List, _++_}
 use Prim.Native.Nat.{ℕ, _-_}
@@ -10,11 +10,11 @@ use Rattle.parameters.specs.declared.ParameterSet.{ParameterSet}
 use Rattle.parameters.specs.declared.Held.{Held}
 use Rattle.parameters.specs.declared.Validation.{Validation}
 
--- A list in n places, "zero beyond its own count".
+-- A list in n places, with 0 beyond its end.
 unfoldable pub padded : ℕ → List ℕ → List ℕ
 padded n xs = xs ++ replicate (n - length xs) 0
 
--- "An accepted set holds the five numbers and both lists as they were handed in; it holds places for 208 constants and 12 for D."
+-- A set of five numbers and two lists: 12 places for D and 208 for C (Rules 2.5).
 unfoldable pub held : ℕ → ℕ → ℕ → ℕ → ℕ → List ℕ → List ℕ → ParameterSet
 held t l h rf rp D C = record {
   width = t;
@@ -50,7 +50,7 @@ validation p t l h rf rp D C =
     let number = firstRefusal (validationRefusals p t l h rf rp D C) in
     record { number = number; parameters = cond (eqb number 0) (held t l h rf rp D C) noSet }
 
--- "Every other entry judges the numbers and used words of the set it is handed by the same refusals; places beyond the used ones aren't read."
+-- The refusals of a set that is handed in, by its five numbers and the used places of its lists alone (Rules 2.7).
 unfoldable pub heldRefusals : ℕ → ℕ → ℕ → ℕ → ℕ → ℕ → List ℕ → List ℕ → List Refusal
 heldRefusals p t l h rf rp D C = numberRefusals t l h rf rp ++ listRefusals p (take t D) (take (constantCount t rf rp) C)
 

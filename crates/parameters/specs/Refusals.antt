@@ -1,4 +1,4 @@
--- Document 01, "Turned back", refusals 1 to 9: each condition, and the refusals of a set in their order.
+-- Refusals 1 to 9 (Rules 8.1): each condition, and those of a set in their order.
 use mathlib.Core.Bool.{Bool, false, not, _&&_, _||_}
 use mathlib.Core.List.{List, [], _∷_, _++_}
 use Prim.Native.Nat.{ℕ, _+_, _*_, _/_, _%_, _^_}
@@ -9,40 +9,40 @@ use Rattle.refusals.specs.Table.{Refusal, refusal}
 use Rattle.poseidon2.specs.Layers.{sum}
 use Rattle.poseidon2.specs.Inverse.{inverses}
 
--- "t not 4, 8, 12"
+-- 1: the width is not 4, 8 or 12.
 unfoldable pub badWidth : ℕ → Bool
 badWidth t = not (eqb t 4 || eqb t 8 || eqb t 12)
 
--- "l is 0, doesn't divide t, or k below 2", where k is t / l
+-- 2: the node size is 0 or does not divide t, or the arity t / l is below 2.
 unfoldable pub badNodeSize : ℕ → ℕ → Bool
 badNodeSize t l = eqb l 0 || not (eqb (t % l) 0) || ltb (t / l) 2
 
--- "R_F odd, 0 or above 12"
+-- 3: the full rounds are odd, 0 or above 12.
 unfoldable pub badFullRounds : ℕ → Bool
 badFullRounds rf = eqb (rf % 2) 1 || eqb rf 0 || ltb 12 rf
 
--- "R_P above 64"
+-- 4: the partial rounds are above 64.
 unfoldable pub badPartialRounds : ℕ → Bool
 badPartialRounds rp = ltb 64 rp
 
--- "h above 32 or k^h above 2^32"
+-- 5: the height is above 32, or there are over 2^32 leaves.
 unfoldable pub badHeight : ℕ → ℕ → Bool
 badHeight k h = ltb 32 h || ltb (2 ^ 32) (k ^ h)
 
--- "C is t×R_F + R_P words"
+-- the constants that the rounds use (Rules 2.1)
 unfoldable pub constantCount : ℕ → ℕ → ℕ → ℕ
 constantCount t rf rp = t * rf + rp
 
--- "D or C of wrong length"
+-- 6: D is not t numbers, or C not as many as the rounds use.
 unfoldable pub badLengths : ℕ → ℕ → ℕ → List ℕ → List ℕ → Bool
 badLengths t rf rp D C = not (eqb (length D) t && eqb (length C) (constantCount t rf rp))
 
--- "a word of D is 0"
+-- 8: a word of D is 0.
 unfoldable pub hasZero : List ℕ → Bool
 hasZero [] = false
 hasZero (d ∷ ds) = eqb d 0 || hasZero ds
 
--- "1 plus the inverses of all D is 0"
+-- 9: 1 plus the inverses of all words of D is 0 modulo p.
 unfoldable pub badDiagonal : ℕ → List ℕ → Bool
 badDiagonal p D = eqb ((1 + sum (inverses p D)) % p) 0
 
@@ -55,7 +55,7 @@ numberRefusals t l h rf rp =
     refusal 4 (badPartialRounds rp) ∷
     refusal 5 (badHeight (t / l) h) ∷ []
 
--- "a number in D or C not below p", and the refusals of D. The lists are those of the used words.
+-- 7, a number of D or C is not a word; then 8 and 9. The lists are those of the used places.
 unfoldable pub listRefusals : ℕ → List ℕ → List ℕ → List Refusal
 listRefusals p D C =
     refusal 7 (not (allWords p D && allWords p C)) ∷

@@ -1,4 +1,4 @@
-// The parameter set (document 01's set) and its validation (document 01's judge).
+// The parameter set and its validation (Rules 2).
 ghost use mathlib.Core.Path.{_≡_};
 ghost use mathlib.Core.Bool.{true, false};
 ghost use Prim.Native.Nat.{_≤_};
@@ -8,7 +8,6 @@ ghost use Rattle.modular.specs.Goldilocks.{p};
 ghost use Rattle.refusals.specs.Table.{firstRefusal};
 ghost use Rattle.parameters.specs.ParameterSet.{padded, held, noSet, holding, validation, heldRefusals};
 ghost use Rattle.parameters.specs.Refusals.{badWidth, badNodeSize, badFullRounds, badPartialRounds, badHeight, badLengths, hasZero, badDiagonal, numberRefusals, shapeRefusals, listRefusals, validationRefusals};
-
 use field::P;
 
 pub struct ParameterSet {
@@ -154,7 +153,7 @@ fn bad_diagonal(diagonal: &[u64]) -> bool
     false
 }
 
-// The first of rows 1 to 5 that applies, or 0.
+// The first of refusals 1 to 5 that applies, or 0.
 fn refusal_of_numbers(
     width: u64,
     node_size: u64,
@@ -182,7 +181,7 @@ fn refusal_of_numbers(
     0
 }
 
-// The first of rows 7 to 9 that applies, or 0.
+// The first of refusals 7 to 9 that applies, or 0.
 fn refusal_of_lists(diagonal: &[u64], constants: &[u64]) -> u8
     ensures { λ r. ⌜ r ≡ firstRefusal (listRefusals p (now (diagonal .entry)) (now (constants .entry))) ⌝ }
 {
@@ -221,7 +220,7 @@ fn bad_lengths(
     false
 }
 
-// The first of rows 1 to 6 that applies, or 0.
+// The first of refusals 1 to 6 that applies, or 0.
 fn refusal_of_shape(
     width: u64,
     node_size: u64,
@@ -243,7 +242,7 @@ fn refusal_of_shape(
     0
 }
 
-// The first of rows 1 to 9 that applies, or 0.
+// The first of refusals 1 to 9 that applies, or 0.
 pub fn refusal_of(
     width: u64,
     node_size: u64,
@@ -393,7 +392,7 @@ fn first<'a>(list: &'a [u64], count: usize) -> &'a [u64]
     &list[..count]
 }
 
-// The first of the rows that applies to a set that is handed in, or 0. Its places beyond the used ones are not read.
+// The first refusal of a set that is handed in, or 0. Its places beyond the used ones are not read.
 pub fn refusal_of_set(
     width: u64,
     node_size: u64,

@@ -122,9 +122,9 @@ module _ (p : ℕ) (ns : List ℕ) (v : Validation) (e : v ≡ readValidation p 
   first-is = ap (λ (w : Validation). w .number) e ∙ number-is p _ _ _ _ _ _ _
 
   -- A set that is refused.
-  pub turned-down : v .number ≢ 0 → reply (readRefusals p ns) (readRoot p ns) ≡ refused (v .number)
+  pub is-refused : v .number ≢ 0 → reply (readRefusals p ns) (readRoot p ns) ≡ refused (v .number)
   unfolding readRefusals
-  turned-down o =
+  is-refused o =
       let front : firstRefusal (validRows ++ leafRows) ≡ firstRefusal validRows = first-front validRows leafRows (λ z. o (first-is ∙ z)) in
       reply-refused (validRows ++ leafRows) (readRoot p ns) (λ z. o (first-is ∙ sym front ∙ z)) ∙ ap refused (front ∙ sym first-is)
 
@@ -167,8 +167,8 @@ module _ (p : ℕ) (ns : List ℕ) (v : Validation) (e : v ≡ readValidation p 
           → refusedLine n ≡ replyText (reply (readRefusals p ns) (readRoot p ns))
       unfolding outcomeReply replyText
       refused-text leaves o n same told r =
-          let turned : refused n ≡ storelessReply p (v .parameters) (readLeaves ns) node = sym (ap outcomeReply told) ∙ r ∙ ap (λ (xs : List ℕ). storelessReply p (v .parameters) xs node) same in
-          sym (ap replyText (root-refused n turned))
+          let said : refused n ≡ storelessReply p (v .parameters) (readLeaves ns) node = sym (ap outcomeReply told) ∙ r ∙ ap (λ (xs : List ℕ). storelessReply p (v .parameters) xs node) same in
+          sym (ap replyText (root-refused n said))
 
       pub done-text : (leaves written : List ℕ) (o : Outcome) → leaves ≡ readLeaves ns → o ≡ Done → outcomeReply o ≡ storelessReply p (v .parameters) leaves node
           → written ≡ storelessRooted p (v .parameters) leaves node → lines written ≡ replyText (reply (readRefusals p ns) (readRoot p ns))

@@ -140,9 +140,9 @@ module _ (s : ParameterSet) (xs : List ℕ) (ys : List Record) where
   abbrev Right : Pass → Type 0
   Right u = (changedReply (finishOf (u .tally)) ≡ pushReply p s xs ys) × (u .store ≡ pushed p s xs ys)
 
-  turned-back : (k : ℕ) (t : Tally) → changedReply (finishOf t) ≡ refused k → k ≢ 0 → firstRefusal (pushRefusals p s xs ys) ≡ k → Right (pass t xs)
+  is-refused : (k : ℕ) (t : Tally) → changedReply (finishOf t) ≡ refused k → k ≢ 0 → firstRefusal (pushRefusals p s xs ys) ≡ k → Right (pass t xs)
   unfolding pushReply pushed
-  turned-back k t f o e =
+  is-refused k t f o e =
       let E = refused-equations (pushRefusals p s xs ys) (pushing p s xs ys .made ∷ []) xs (pushing p s xs ys .store) k (sym e) o in
       (f ∙ E .0, E .1)
 
@@ -155,13 +155,13 @@ module _ (s : ParameterSet) (xs : List ℕ) (ys : List Record) where
   second-pass true false f g e =
       let words : allWords p (used ++ xs) ≡ false = words-of-both used xs ∙ and-comm (allWords p used) (allWords p xs) ∙ g in
       let z = late-row e ∙ refusal-passes 11 (not (placesBelow n ys)) (notWords p (used ++ xs) ∷ []) (ap not f) ∙ twelve p (used ++ xs) words in
-      subst Right (sym (write-none s ys (pass (clear n true false 0) xs) no-words)) (turned-back 12 (clear n true false 0) refl (λ y. absurd (omega (arith, y))) z)
+      subst Right (sym (write-none s ys (pass (clear n true false 0) xs) no-words)) (is-refused 12 (clear n true false 0) refl (λ y. absurd (omega (arith, y))) z)
     where
       no-words : (q : ℕ) → mayWrite (clear n true false 0) q ≡ false
       no-words q = refl
   second-pass false w f g e =
       let z = late-row e ∙ refusal-applies 11 (not (placesBelow n ys)) (notWords p (used ++ xs) ∷ []) (ap not f) in
-      subst Right (sym (write-none s ys (pass (clear n false w 0) xs) no-place)) (turned-back 11 (clear n false w 0) refl (λ y. absurd (omega (arith, y))) z)
+      subst Right (sym (write-none s ys (pass (clear n false w 0) xs) no-place)) (is-refused 11 (clear n false w 0) refl (λ y. absurd (omega (arith, y))) z)
     where
       no-place : (q : ℕ) → mayWrite (clear n false w 0) q ≡ false
       no-place q = refl
@@ -171,7 +171,7 @@ module _ (s : ParameterSet) (xs : List ℕ) (ys : List Record) where
   both-passes zero e = second-pass (placesBelow n ys) (allWords p xs && allWords p used) refl refl e
   both-passes (suc k) e =
       let z = ap firstRefusal rows-are ∙ first-front early late (λ y. absurd (omega (arith, e, y))) ∙ e in
-      subst Right (sym (write-none s ys (pass (tested (suc k)) xs) has-row)) (turned-back (suc k) (tested (suc k)) finished (λ y. absurd (omega (arith, y))) z)
+      subst Right (sym (write-none s ys (pass (tested (suc k)) xs) has-row)) (is-refused (suc k) (tested (suc k)) finished (λ y. absurd (omega (arith, y))) z)
     where
       no : eqb (suc k) 0 ≡ false
       no = ne-eqb (suc k) 0 (λ z. absurd (omega (arith, z)))

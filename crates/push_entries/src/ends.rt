@@ -12,7 +12,7 @@ use pushes::tally::Tally;
 use trees::sets;
 
 // The beginning of a push that one of refusals 1 to 10 stops.
-fn turned_back(number: u8) -> Tally
+fn refused(number: u8) -> Tally
     ensures { λ r. ⌜ r ≡ record { number = number; places = 0; placed = true; words = true; made = 0 } ⌝ }
 {
     Tally {
@@ -30,13 +30,13 @@ pub fn begin(set: ParameterSet, store: &[u64], count: usize) -> Tally
 {
     let number = state_entries::refusal_of(set);
     if number != 0 {
-        return turned_back(number);
+        return refused(number);
     }
     if store.len() != sets::store_words(set) {
-        return turned_back(10);
+        return refused(10);
     }
     if 4294967296 < count {
-        return turned_back(10);
+        return refused(10);
     }
     Tally {
         number: 0,

@@ -12,7 +12,7 @@ use std::num::wrapping_sub_u64;
 struct Call {
     fault: u64,
     value: u64,
-    lent: usize,
+    given: usize,
     place: u64,
     next: usize,
 }
@@ -20,12 +20,12 @@ struct Call {
 fn read_call(input: &[u8], at: usize) -> Call {
     let fault = input::number(input, at);
     let value = input::number(input, fault.next);
-    let lent = input::number(input, value.next);
-    let place = input::number(input, lent.next);
+    let given = input::number(input, value.next);
+    let place = input::number(input, given.next);
     Call {
         fault: fault.value,
         value: value.value,
-        lent: lists::clamped(lent.value, 1024),
+        given: lists::clamped(given.value, 1024),
         place: place.value,
         next: place.next,
     }
@@ -67,7 +67,7 @@ fn replacement(
     let list = lists::read(input, call.next, &mut words, 0);
     lists::put(store, wrapping_sub_u64(call.fault, 1), call.value);
     let leaf = lists::part(&words, list.count);
-    let changed = replace_in_part(set, store, call.lent, call.place, leaf);
+    let changed = replace_in_part(set, store, call.given, call.place, leaf);
     print_line(call.place, changed, lists::part(store, size));
     list.next
 }

@@ -3,7 +3,7 @@ use native.Mathlib.Omega.{arith}
 use lib.Seq.{length-take-le}
 use Rattle.modular.specs.Goldilocks.{p}
 use Rattle.program.specs.Program.{replyText}
-use Rattle.program.proofs.ProgramReply.{turned-down, node-size-few, refused-text, done-text}
+use Rattle.program.proofs.ProgramReply.{is-refused, node-size-few, refused-text, done-text}
 use Rattle.program.proofs.Texts.{written-as}
 use borrow.Author.Needs.{needs}
 use Rattle.program.proofs.text_of.Statement.{statement}
@@ -22,7 +22,7 @@ returns : tie.Need-returns
 unfolding replyText
 returns c =
     let f = c .before .before .put-refused .ensures in
-    let t = turned-down p _ _ (c .before .before .before .before .before .before .set-read .ensures) (c .before .before .before .before .if1 .taken) in
+    let t = is-refused p _ _ (c .before .before .before .before .before .before .set-read .ensures) (c .before .before .before .before .if1 .taken) in
     written-as (sym (ap replyText t)) _ f
 
 array-borrow-prefix-places : tie.Need-array-borrow-prefix-places

@@ -10,36 +10,36 @@ use Rattle.push_entries.proofs.ends.begin.Tie as tie
 refusal-of-requires : tie.Need-refusal-of-requires
 refusal-of-requires c κs = search needs
 
-turned-back-requires : tie.Need-turned-back-requires
-turned-back-requires c κs = search needs
+refused-requires : tie.Need-refused-requires
+refused-requires c κs = search needs
 
 returns : tie.Need-returns
 returns c =
     let e = c .before .before .refusal-of .ensures in
-    c .turned-back .ensures ∙ begin-refused _ _ _ _ (c .before .if1 .taken) (early-set _ _ _ (λ z. c .before .if1 .taken (e ∙ z)) ∙ sym e)
+    c .refused .ensures ∙ begin-refused _ _ _ _ (c .before .if1 .taken) (early-set _ _ _ (λ z. c .before .if1 .taken (e ∙ z)) ∙ sym e)
 
 store-words-requires : tie.Need-store-words-requires
 store-words-requires c κs = sym (c .before .refusal-of .ensures) ∙ c .if1 .left
 
-turned-back-requires-2 : tie.Need-turned-back-requires-2
-turned-back-requires-2 c κs = search needs
+refused-requires-2 : tie.Need-refused-requires-2
+refused-requires-2 c κs = search needs
 
 returns-2 : tie.Need-returns-2
 returns-2 c =
     let n = c .before in
     let none = sym (n .before .before .before .refusal-of .ensures) ∙ n .before .before .if1 .left in
-    c .turned-back2 .ensures
+    c .refused2 .ensures
     ∙ begin-refused _ _ _ 10 (λ z. absurd (omega arith)) (early-ten _ _ _ none (first-bad _ _ (ne-eqb _ _ (λ z. n .if2 .taken (z ∙ sym (n .before .store-words .ensures))))))
 
-turned-back-requires-3 : tie.Need-turned-back-requires-3
-turned-back-requires-3 c κs = search needs
+refused-requires-3 : tie.Need-refused-requires-3
+refused-requires-3 c κs = search needs
 
 returns-3 : tie.Need-returns-3
 returns-3 c =
     let m = c .before in
     let n = m .before in
     let none = sym (n .before .before .before .refusal-of .ensures) ∙ n .before .before .if1 .left in
-    c .turned-back3 .ensures
+    c .refused3 .ensures
     ∙ begin-refused _ _ _ 10 (λ z. absurd (omega arith)) (early-ten _ _ _ none (second-bad _ _ (eq-eqb _ _ (n .if2 .left ∙ n .before .store-words .ensures)) (lt-leb _ _ (m .if3 .taken))))
 
 places-requires : tie.Need-places-requires
@@ -60,12 +60,12 @@ begin-spec =
     tie.close
     (tie.spec
     refusal-of-requires
-    turned-back-requires
+    refused-requires
     returns
     store-words-requires
-    turned-back-requires-2
+    refused-requires-2
     returns-2
-    turned-back-requires-3
+    refused-requires-3
     returns-3
     places-requires
     all-words-requires
