@@ -384,6 +384,16 @@ pub fn validate(
     }
 }
 
+// The number at a place, or 0 beyond the last.
+pub fn number_at(numbers: &[u64], i: usize) -> u64
+    ensures { λ r. ⌜ r ≡ getD (now (numbers .entry)) i 0 ⌝ }
+{
+    if i < numbers.len() {
+        return numbers[i];
+    }
+    0
+}
+
 // The first numbers of a list.
 fn first<'a>(list: &'a [u64], count: usize) -> &'a [u64]
     requires { ⌜ count ≤ length (now list) ⌝ }

@@ -46,16 +46,6 @@ fn decode(bytes: &[u8], numbers: &mut [u64]) -> usize
     count
 }
 
-// The number at a place, or 0 beyond the last.
-fn number_at(numbers: &[u64], i: usize) -> u64
-    ensures { λ r. ⌜ r ≡ getD (now (numbers .entry)) i 0 ⌝ }
-{
-    if i < numbers.len() {
-        return numbers[i];
-    }
-    0
-}
-
 // The first n numbers, or all of them.
 fn first(numbers: &[u64], n: u64) -> &[u64]
     ensures { λ r. ⌜ now r ≡ take n (now (numbers .entry)) ⌝ }
@@ -161,7 +151,7 @@ fn after_diagonal(numbers: &[u64]) -> &[u64]
     ensures { λ r. ⌜ now r ≡ drop (readWidth (now (numbers .entry))) (drop 5 (now (numbers .entry))) ⌝ }
 {
     let lists = beyond(numbers, 5);
-    beyond(lists, number_at(numbers, 0))
+    beyond(lists, parameters::number_at(numbers, 0))
 }
 
 // How many of the numbers after D are C's.
@@ -170,9 +160,9 @@ fn constants_read(numbers: &[u64]) -> u64
 {
     let rest = after_diagonal(numbers);
     constant_count(
-        number_at(numbers, 0),
-        number_at(numbers, 3),
-        number_at(numbers, 4),
+        parameters::number_at(numbers, 0),
+        parameters::number_at(numbers, 3),
+        parameters::number_at(numbers, 4),
         rest.len() as u64,
     )
 }
@@ -188,15 +178,15 @@ fn leaves_read(numbers: &[u64]) -> &[u64]
 fn set_read(numbers: &[u64]) -> Validation
     ensures { λ r. ⌜ r ≡ readValidation p (now (numbers .entry)) ⌝ }
 {
-    let width = number_at(numbers, 0);
+    let width = parameters::number_at(numbers, 0);
     let lists = beyond(numbers, 5);
     let rest = after_diagonal(numbers);
     opening_tree::validate(
         width,
-        number_at(numbers, 1),
-        number_at(numbers, 2),
-        number_at(numbers, 3),
-        number_at(numbers, 4),
+        parameters::number_at(numbers, 1),
+        parameters::number_at(numbers, 2),
+        parameters::number_at(numbers, 3),
+        parameters::number_at(numbers, 4),
         first(lists, width),
         first(rest, constants_read(numbers)),
     )

@@ -1,30 +1,21 @@
 // Records read from a list of numbers, seven for each: a place, then six words.
 ghost use mathlib.Core.Path.{_≡_};
 ghost use Prim.Native.Nat.{_+_, _*_, _≤_};
-ghost use lib.ListN.{length, getD};
+ghost use lib.ListN.{length};
 ghost use Rattle.pushes.specs.Listed.{recordOf, recordAt};
 use crate::record::Record;
-
-fn number_at(numbers: &[u64], i: usize) -> u64
-    ensures { λ r. ⌜ r ≡ getD (now (numbers .entry)) i 0 ⌝ }
-{
-    if i < numbers.len() {
-        return numbers[i];
-    }
-    0
-}
 
 // A record of the first six words, with 0 for those that are not there.
 fn record_of(place: u64, words: &[u64]) -> Record
     ensures { λ r. ⌜ r ≡ recordOf place (now (words .entry)) ⌝ }
 {
     let six = [
-        number_at(words, 0),
-        number_at(words, 1),
-        number_at(words, 2),
-        number_at(words, 3),
-        number_at(words, 4),
-        number_at(words, 5),
+        parameters::number_at(words, 0),
+        parameters::number_at(words, 1),
+        parameters::number_at(words, 2),
+        parameters::number_at(words, 3),
+        parameters::number_at(words, 4),
+        parameters::number_at(words, 5),
     ];
     Record {
         place: place,

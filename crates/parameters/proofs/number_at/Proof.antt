@@ -1,9 +1,8 @@
 use mathlib.Core.Path.{sym}
-use native.Mathlib.Omega.{arith}
 use lib.ListN.{List·getD-eq-default}
 use borrow.Author.Needs.{needs}
-use Rattle.program.proofs.number_at.Statement.{statement}
-use Rattle.program.proofs.number_at.Tie as tie
+use Rattle.parameters.proofs.number_at.Statement.{statement}
+use Rattle.parameters.proofs.number_at.Tie as tie
 
 mul-result : tie.Need-mul-result
 mul-result c = search needs
@@ -15,7 +14,7 @@ returns : tie.Need-returns
 returns c = search needs
 
 returns-2 : tie.Need-returns-2
-returns-2 c = sym (List·getD-eq-default (c .before .args .numbers .now) 0 {n = c .before .args .i} (omega arith))
+returns-2 c = sym (List·getD-eq-default (c .before .args .numbers .now) 0 (c .if1 .left))
 
 pub number-at-spec : {M : Type 1} → statement M
 number-at-spec = tie.close (tie.spec mul-result shared-slice-read-result returns returns-2)
