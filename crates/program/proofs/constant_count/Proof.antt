@@ -10,9 +10,6 @@ returns c = count-over _ _ _ _ (c .if1 .taken)
 returns-2 : tie.Need-returns-2
 returns-2 c = count-none _ _ _ _ (omega arith) (c .if2 .taken)
 
-div-if3 : tie.Need-div-if3
-div-if3 c = search needs
-
 returns-3 : tie.Need-returns-3
 returns-3 c = count-beyond _ _ _ _ (omega arith) (c .before .if2 .left) (c .if3 .taken)
 
@@ -26,5 +23,4 @@ returns-4 : tie.Need-returns-4
 returns-4 c = count-within _ _ _ _ (count-fits _ _ _ _ (omega arith) (c .before .if2 .left) (c .if3 .left))
 
 pub constant-count-spec : {M : Type 1} → statement M
-constant-count-spec =
-    tie.close (tie.spec returns returns-2 div-if3 returns-3 mul-result add-result returns-4)
+constant-count-spec = tie.close (tie.spec returns returns-2 (search needs) returns-3 mul-result add-result returns-4)

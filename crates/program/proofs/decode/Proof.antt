@@ -18,42 +18,12 @@ loop-holds : tie.Need-loop-holds Inv-loop μ-loop
 unfolding numbersOf
 loop-holds c = (omega arith, omega arith, refl, refl)
 
-mul-at : tie.Need-mul-at Inv-loop μ-loop
-mul-at c = omega arith
-
-sub-number-of : tie.Need-sub-number-of Inv-loop μ-loop
-sub-number-of c = omega arith
-
-part-number-of-start : tie.Need-part-number-of-start Inv-loop μ-loop
-part-number-of-start c = omega arith
-
-part-number-of-end : tie.Need-part-number-of-end Inv-loop μ-loop
-part-number-of-end c = omega arith
-
-number-of-requires : tie.Need-number-of-requires Inv-loop μ-loop
-number-of-requires c κs = omega arith
-
-mul-numbers : tie.Need-mul-numbers Inv-loop μ-loop
-mul-numbers c = omega arith
-
-slice-write-numbers : tie.Need-slice-write-numbers Inv-loop μ-loop
-slice-write-numbers c = omega arith
-
-add-i : tie.Need-add-i Inv-loop μ-loop
-add-i c = omega arith
-
-loop-less : tie.Need-loop-less Inv-loop μ-loop
-loop-less c = omega arith
-
 loop-again : tie.Need-loop-again Inv-loop μ-loop
 loop-again c =
     let l = c .before .before .before in
     let bytes = l .before .before .before .args .bytes .now in
     let n = c .number-of .ensures ∙ ap (λ (xs : List ℕ). littleEndian (take 8 xs)) (to-end (8 * l .loop .i) bytes) in
     (omega arith, omega arith, simp length-set (l .loop .inv .2), decoded-more _ _ _ _ (omega arith) n (l .loop .inv .3))
-
-same-length : tie.Need-same-length Inv-loop μ-loop
-same-length c = omega arith
 
 returns : tie.Need-returns Inv-loop μ-loop
 returns c =
@@ -66,18 +36,5 @@ pub decode-spec : {M : Type 1} → statement M
 decode-spec =
     tie.close
     (tie.spec
-    Inv-loop
-    μ-loop
-    loop-holds
-    mul-at
-    sub-number-of
-    part-number-of-start
-    part-number-of-end
-    number-of-requires
-    mul-numbers
-    slice-write-numbers
-    add-i
-    loop-less
-    loop-again
-    same-length
-    returns)
+    Inv-loop μ-loop loop-holds (λ c. omega arith) (λ c. omega arith) (λ c. omega arith) (λ c. omega arith) (λ c κs. omega arith)
+    (λ c. omega arith) (λ c. omega arith) (λ c. omega arith) (λ c. omega arith) loop-again (λ c. omega arith) returns)

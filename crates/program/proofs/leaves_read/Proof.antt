@@ -5,15 +5,6 @@ use borrow.Author.Needs.{needs}
 use Rattle.program.proofs.leaves_read.Statement.{statement}
 use Rattle.program.proofs.leaves_read.Tie as tie
 
-after-diagonal-requires : tie.Need-after-diagonal-requires
-after-diagonal-requires c κs = search needs
-
-constants-read-requires : tie.Need-constants-read-requires
-constants-read-requires c κs = search needs
-
-beyond-requires : tie.Need-beyond-requires
-beyond-requires c κs = search needs
-
 returns : tie.Need-returns
 returns c =
     c .beyond .ensures
@@ -21,5 +12,4 @@ returns c =
     ∙ beyond-of (readCount (c .before .before .before .before .args .numbers .now)) _
 
 pub leaves-read-spec : {M : Type 1} → statement M
-leaves-read-spec =
-    tie.close (tie.spec after-diagonal-requires constants-read-requires beyond-requires returns)
+leaves-read-spec = tie.close (tie.spec (search needs) (search needs) (search needs) returns)

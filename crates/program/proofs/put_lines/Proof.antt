@@ -19,12 +19,6 @@ loop-holds : tie.Need-loop-holds Inv-loop μ-loop
 unfolding lines written
 loop-holds c = (omega arith, refl, omega arith, refl, refl)
 
-mul-put-decimal : tie.Need-mul-put-decimal Inv-loop μ-loop
-mul-put-decimal c = omega arith
-
-shared-slice-read-put-decimal : tie.Need-shared-slice-read-put-decimal Inv-loop μ-loop
-shared-slice-read-put-decimal c = omega arith
-
 put-decimal-requires : tie.Need-put-decimal-requires Inv-loop μ-loop
 put-decimal-requires c κs =
     let l = c .before .before .before in
@@ -39,12 +33,6 @@ put-byte-requires c κs =
     let d = c .before .before .before .put-decimal in
     let i = l .loop .i in
     omega (arith, s .pre, d .ensures .0, d .kept .1 .1 .0, decimal-word (getD (s .args .words .now) i 0) (omega (arith, c .before .before .before .before .before .shared-slice-known2 .given i)))
-
-add-i : tie.Need-add-i Inv-loop μ-loop
-add-i c = omega arith
-
-loop-less : tie.Need-loop-less Inv-loop μ-loop
-loop-less c = omega arith
 
 loop-again : tie.Need-loop-again Inv-loop μ-loop
 loop-again c =
@@ -65,9 +53,6 @@ loop-again c =
           ∙ ap (λ (text : List ℕ). written text (s .args .output .now)) (sym (lines-more words i (omega arith))),
     )
 
-same-length : tie.Need-same-length Inv-loop μ-loop
-same-length c = omega arith
-
 returns : tie.Need-returns Inv-loop μ-loop
 returns c =
     let l = c .before in
@@ -80,15 +65,5 @@ pub put-lines-spec : {M : Type 1} → statement M
 put-lines-spec =
     tie.close
     (tie.spec
-    Inv-loop
-    μ-loop
-    loop-holds
-    mul-put-decimal
-    shared-slice-read-put-decimal
-    put-decimal-requires
-    put-byte-requires
-    add-i
-    loop-less
-    loop-again
-    same-length
-    returns)
+    Inv-loop μ-loop loop-holds (λ c. omega arith) (λ c. omega arith) put-decimal-requires put-byte-requires (λ c. omega arith)
+    (λ c. omega arith) loop-again (λ c. omega arith) returns)

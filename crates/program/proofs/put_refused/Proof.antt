@@ -6,12 +6,6 @@ use borrow.Author.Needs.{needs}
 use Rattle.program.proofs.put_refused.Statement.{statement}
 use Rattle.program.proofs.put_refused.Tie as tie
 
-slice-aggregate-put-bytes : tie.Need-slice-aggregate-put-bytes
-slice-aggregate-put-bytes c = search needs
-
-put-bytes-requires : tie.Need-put-bytes-requires
-put-bytes-requires c κs = search needs
-
 put-decimal-requires : tie.Need-put-decimal-requires
 put-decimal-requires c κs =
     let s = c .before .before .before .before .before .before .before in
@@ -24,9 +18,6 @@ put-byte-requires c κs =
     let w = c .before .before .before .before .before .before .before .put-bytes in
     let d = c .before .before .before .put-decimal in
     omega (arith, s .pre, w .ensures .0, w .kept .1 .1 .0, d .ensures .0, d .kept .1 .1 .0, decimal-byte (s .args .number) (omega arith))
-
-same-length : tie.Need-same-length
-same-length c = search needs
 
 returns : tie.Need-returns
 unfolding refusedLine
@@ -42,12 +33,4 @@ returns c =
     )
 
 pub put-refused-spec : {M : Type 1} → statement M
-put-refused-spec =
-    tie.close
-    (tie.spec
-    slice-aggregate-put-bytes
-    put-bytes-requires
-    put-decimal-requires
-    put-byte-requires
-    same-length
-    returns)
+put-refused-spec = tie.close (tie.spec (search needs) (search needs) put-decimal-requires put-byte-requires (search needs) returns)

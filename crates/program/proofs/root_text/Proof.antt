@@ -8,46 +8,25 @@ use borrow.Author.Needs.{needs}
 use Rattle.program.proofs.root_text.Statement.{statement}
 use Rattle.program.proofs.root_text.Tie as tie
 
-put-refused-requires : tie.Need-put-refused-requires
-put-refused-requires c κs = search needs
-
 returns : tie.Need-returns
 returns c =
     let f = c .put-refused .ensures in
     written-as (text-of-bad-count p _ (count-short _ (c .before .before .if1 .taken))) _ f
-
-put-refused-requires-2 : tie.Need-put-refused-requires-2
-put-refused-requires-2 c κs = search needs
 
 returns-2 : tie.Need-returns-2
 returns-2 c =
     let f = c .put-refused2 .ensures in
     written-as (text-of-bad-count p _ (count-long _ (c .before .before .before .if1 .left) (c .before .before .if2 .taken))) _ f
 
-put-refused-requires-3 : tie.Need-put-refused-requires-3
-put-refused-requires-3 c κs = search needs
-
 returns-3 : tie.Need-returns-3
 returns-3 c =
     let f = c .put-refused3 .ensures in
     written-as (text-of-bad-count p _ (count-odd _ (c .before .before .before .before .if1 .left) (c .before .before .before .if2 .left) (c .before .before .if3 .taken))) _ f
 
-slice-aggregate-decode : tie.Need-slice-aggregate-decode
-slice-aggregate-decode c = search needs
-
-decode-requires : tie.Need-decode-requires
-decode-requires c κs = search needs
-
-array-share-prefix-numbers : tie.Need-array-share-prefix-numbers
-array-share-prefix-numbers c = search needs
-
 slice-aggregate-text-of : tie.Need-slice-aggregate-text-of
 slice-aggregate-text-of c =
     let d = c .before .before .decode in
     sym (length-take-le _ _ (omega (arith, d .ensures .0, d .kept .1 .0, c .before .before .before .before .before .if2 .left)))
-
-text-of-requires : tie.Need-text-of-requires
-text-of-requires c κs = search needs
 
 returns-4 : tie.Need-returns-4
 returns-4 c =
@@ -59,15 +38,5 @@ pub root-text-spec : {M : Type 1} → statement M
 root-text-spec =
     tie.close
     (tie.spec
-    put-refused-requires
-    returns
-    put-refused-requires-2
-    returns-2
-    put-refused-requires-3
-    returns-3
-    slice-aggregate-decode
-    decode-requires
-    array-share-prefix-numbers
-    slice-aggregate-text-of
-    text-of-requires
-    returns-4)
+    (search needs) returns (search needs) returns-2 (search needs) returns-3 (search needs) (search needs) (search needs)
+    slice-aggregate-text-of (search needs) returns-4)

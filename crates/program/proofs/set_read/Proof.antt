@@ -6,39 +6,6 @@ use borrow.Author.Needs.{needs}
 use Rattle.program.proofs.set_read.Statement.{statement}
 use Rattle.program.proofs.set_read.Tie as tie
 
-number-at-requires : tie.Need-number-at-requires
-number-at-requires c κs = search needs
-
-beyond-requires : tie.Need-beyond-requires
-beyond-requires c κs = search needs
-
-after-diagonal-requires : tie.Need-after-diagonal-requires
-after-diagonal-requires c κs = search needs
-
-number-at-requires-2 : tie.Need-number-at-requires-2
-number-at-requires-2 c κs = search needs
-
-number-at-requires-3 : tie.Need-number-at-requires-3
-number-at-requires-3 c κs = search needs
-
-number-at-requires-4 : tie.Need-number-at-requires-4
-number-at-requires-4 c κs = search needs
-
-number-at-requires-5 : tie.Need-number-at-requires-5
-number-at-requires-5 c κs = search needs
-
-first-requires : tie.Need-first-requires
-first-requires c κs = search needs
-
-constants-read-requires : tie.Need-constants-read-requires
-constants-read-requires c κs = search needs
-
-first-requires-2 : tie.Need-first-requires-2
-first-requires-2 c κs = search needs
-
-validate-requires : tie.Need-validate-requires
-validate-requires c κs = search needs
-
 returns : tie.Need-returns
 unfolding readValidation
 returns c =
@@ -57,15 +24,5 @@ pub set-read-spec : {M : Type 1} → statement M
 set-read-spec =
     tie.close
     (tie.spec
-    number-at-requires
-    beyond-requires
-    after-diagonal-requires
-    number-at-requires-2
-    number-at-requires-3
-    number-at-requires-4
-    number-at-requires-5
-    first-requires
-    constants-read-requires
-    first-requires-2
-    validate-requires
-    returns)
+    (search needs) (search needs) (search needs) (search needs) (search needs) (search needs) (search needs) (search needs) (search needs)
+    (search needs) (search needs) returns)
