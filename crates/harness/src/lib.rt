@@ -1,8 +1,11 @@
-// What the programs `vectors` and `tree_vectors` read and write by: lines of text, the numbers of their input, drawn numbers, lists of
-// them, sets, and answers.
+// What the programs `vectors`, `tree_vectors` and `history_vectors` read and write by: lines of text, the numbers of their input, drawn
+// numbers, lists of them, sets, answers, and calls of the entries of trees on what a line of the input holds.
 pub mod answers;
+pub mod entries;
 pub mod generator;
 pub mod handed;
+pub mod held;
 pub mod input;
 pub mod lists;
 pub mod output;
+pub mod replacements;

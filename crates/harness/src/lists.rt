@@ -3,10 +3,9 @@ ghost use Prim.Native.Nat.{_≤_};
 use crate::generator;
 use crate::input;
 use crate::output;
+use field::P;
 use std::num::wrapping_add_u64;
 use std::num::wrapping_sub_u64;
-
-const P: u64 = 18446744069414584321;
 
 // How many of a buffer's places the list has, and where the number after it begins.
 pub struct Taken {

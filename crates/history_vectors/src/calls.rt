@@ -1,10 +1,10 @@
 // Replacements and pushes, one after another on a store.
+use harness::entries;
 use harness::input;
 use harness::lists;
 use harness::output;
 use opening_tree::Changed;
 use parameters::ParameterSet;
-use tree_calls::entries;
 
 // What a call answered, and where the next one begins.
 struct Called {
@@ -31,7 +31,7 @@ fn push(input: &[u8], at: usize, set: ParameterSet, store: &mut [u64]) -> Called
     let list = lists::read(input, at, &mut numbers, 0);
     output::text(b"push");
     output::operand((list.count / 7) as u64);
-    let changed = push_calls::push_list(set, store, lists::part(&numbers, list.count));
+    let changed = adapters::pushing::push_list(set, store, lists::part(&numbers, list.count));
     Called {
         changed: changed,
         next: list.next,

@@ -1,10 +1,13 @@
 // Each place's own opening, the verdict on its leaf with it, and its parts.
+use field::P;
 use harness::answers;
+use harness::entries;
 use harness::lists;
 use harness::output;
 use parameters::ParameterSet;
+use state_entries::Outcome;
 use std::num::wrapping_add_u64;
-use tree_calls::entries;
+use std::num::wrapping_sub_u64;
 
 // The words of a node that begin at a place of the store, where it has them.
 fn node_at(store: &[u64], at: u64, node_size: usize) -> &[u64] {
@@ -12,16 +15,29 @@ fn node_at(store: &[u64], at: u64, node_size: usize) -> &[u64] {
     lists::part(lists::rest(store, from), node_size)
 }
 
-const P: u64 = 18446744069414584321;
+// What copying a level's part answers: 0, or the number of the refusal.
+fn copied(set: ParameterSet, siblings: &[u64], level: u64, part: &mut [u64]) -> u8 {
+    match opening_tree::copy_level(set, siblings, level, part) {
+        Outcome::Done => 0,
+        Outcome::Refused(number) => number,
+    }
+}
 
-// What a reader hands back for a level.
+// The number of the refusal of a level's part, or 0. A part is a row but for one node.
+fn level_refusal(set: ParameterSet, siblings: &[u64], level: u64) -> u8 {
+    let mut part = [0u64; 16];
+    let size = lists::clamped(wrapping_sub_u64(set.width, set.node_size), 16);
+    copied(set, siblings, level, &mut part[..size])
+}
+
+// What a reader gives for a level.
 fn print_level(set: ParameterSet, siblings: &[u64], level: u64) {
-    let row = reader_calls::level_refusal(set, siblings, level);
-    if row != 0 {
-        answers::refused(row);
+    let number = level_refusal(set, siblings, level);
+    if number != 0 {
+        answers::refused(number);
         return;
     }
-    output::operand(lists::digest(1, reader_calls::level_words(set, siblings, level)));
+    output::operand(lists::digest(1, adapters::reading::level_words(set, siblings, level)));
 }
 
 // Each level's part, and that of a level too many.

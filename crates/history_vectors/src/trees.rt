@@ -1,13 +1,13 @@
 // Trees, and what is called on each. The module docstring of reference/history_cases.py has the input's grammar.
 use crate::calls;
 use crate::places;
+use harness::entries;
 use harness::handed;
 use harness::input;
 use harness::lists;
 use harness::output;
 use parameters::ParameterSet;
 use std::num::wrapping_sub_u64;
-use tree_calls::entries;
 
 // A tree's sizes, the number of calls, and where the first call begins.
 struct Sizes {

@@ -1,9 +1,10 @@
 // The cases of the program's input, a line each. The module docstring of reference/tree_cases.py has the input's grammar.
+use crate::extractions_section;
 use crate::trees_section;
+use harness::held;
 use harness::input;
 use harness::output;
-use tree_calls::held;
-use tree_calls::replacements;
+use harness::replacements;
 
 fn header(input: &[u8], at: usize) -> usize {
     let section = input::number(input, at);
@@ -26,7 +27,7 @@ fn line(input: &[u8], at: usize) -> usize {
         2 => trees_section::tree(false, input, first.next),
         3 => held::case(input, first.next),
         4 => replacements::case(input, first.next),
-        _ => extraction_vectors::case(input, first.next),
+        _ => extractions_section::case(input, first.next),
     }
 }
 

@@ -1,5 +1,6 @@
 // The section `trees`: stores, roots, openings and verdicts, under a set that is handed in as it is.
 use harness::answers;
+use harness::entries;
 use harness::handed;
 use harness::input;
 use harness::lists;
@@ -7,7 +8,6 @@ use harness::output;
 use opening_tree::Verdict;
 use parameters::ParameterSet;
 use std::num::wrapping_add_u64;
-use tree_calls::entries;
 
 // How many verdicts of some were either.
 struct Verdicts {

@@ -1,0 +1,33 @@
+-- An array that is filled with the records of a list of numbers, one after the other.
+use mathlib.Core.Path.{_≡_, refl, sym, ap, subst, _∙_}
+use mathlib.Core.List.{List, [], _∷_, _++_}
+use Prim.Native.Nat.{ℕ, suc, _+_, _/_, _<_, min}
+use native.Mathlib.Numerals.{add-one}
+use lib.ListN.{length, take, set, length-set}
+use lib.Seq.{take-suc-set}
+use Rattle.pushes.specs.declared.record.Record.{Record}
+use Rattle.pushes.specs.Listed.{recordAt, recordsOf}
+use Rattle.adapters.specs.Listed.{firstSixteen}
+
+-- the first i are there
+pub record Filled (ns : List ℕ) (rs : List Record) (i : ℕ) : Type 0 where
+  pub sixteen : length rs ≡ 16
+  pub sofar : take i rs ≡ recordsOf ns i
+
+pub filled-none : (ns : List ℕ) (rs : List Record) → length rs ≡ 16 → Filled ns rs 0
+unfolding recordsOf
+filled-none ns rs e = record { sixteen = e; sofar = refl }
+
+filled-suc : (ns : List ℕ) (rs : List Record) (i : ℕ) (r : Record) → i < 16 → r ≡ recordAt ns i → Filled ns rs i → take (suc i) (set rs i r) ≡ recordsOf ns (suc i)
+unfolding recordsOf
+filled-suc ns rs i r below e F = take-suc-set rs i r (subst (λ (n : ℕ). i < n) (sym (F .sixteen)) below) ∙ (λ j. F .sofar j ++ (e j ∷ []))
+
+pub filled-next : (ns : List ℕ) (rs : List Record) (i : ℕ) (r : Record) → i < 16 → r ≡ recordAt ns i → Filled ns rs i → Filled ns (set rs i r) (i + 1)
+filled-next ns rs i r below e F = record {
+  sixteen = length-set rs i r ∙ F .sixteen;
+  sofar = subst (λ (n : ℕ). take n (set rs i r) ≡ recordsOf ns n) (sym (add-one i)) (filled-suc ns rs i r below e F);
+}
+
+pub filled-all : (ns : List ℕ) (rs : List Record) (i : ℕ) → i ≡ min 16 (length ns / 7) → Filled ns rs i → take i rs ≡ firstSixteen ns
+unfolding firstSixteen
+filled-all ns rs i e F = F .sofar ∙ ap (recordsOf ns) e

@@ -1,0 +1,55 @@
+// Pushes for callers that have no slice of records: the records are passed by value, or as numbers.
+ghost use mathlib.Core.Path.{_≡_};
+ghost use Prim.Native.Nat.{_≤_, _/_, min};
+ghost use lib.ListN.{length, take};
+ghost use Rattle.modular.specs.Goldilocks.{p};
+ghost use Rattle.change_entries.specs.Replacement.{changedReply};
+ghost use Rattle.push_entries.specs.Pushes.{pushReply, pushed};
+ghost use Rattle.adapters.specs.Listed.{firstSixteen};
+use change_entries::Changed;
+use parameters::ParameterSet;
+use pushes::Record;
+
+// A push of the first records of an array.
+pub fn push_first(
+    set: ParameterSet,
+    store: &mut [u64],
+    records: [Record; 16],
+    count: usize,
+) -> Changed
+    requires { ⌜ count ≤ 16 ⌝ }
+    ensures { λ r. ⌜ (changedReply r ≡ pushReply p set (now (store .entry)) (take count records))
+        × (now (store .exit) ≡ pushed p set (now (store .entry)) (take count records)) ⌝ }
+{
+    push_entries::push(set, store, &records[..count])
+}
+
+fn record_count(numbers: &[u64]) -> usize
+    ensures { λ r. ⌜ r ≡ min 16 (length (now (numbers .entry)) / 7) ⌝ }
+{
+    let count = numbers.len() / 7;
+    if count <= 16 {
+        return count;
+    }
+    16
+}
+
+// A push of the records of a list with seven numbers for each, at most sixteen.
+pub fn push_list(set: ParameterSet, store: &mut [u64], numbers: &[u64]) -> Changed
+    ensures { λ r. ⌜ (changedReply r ≡ pushReply p set (now (store .entry)) (firstSixteen (now (numbers .entry))))
+        × (now (store .exit) ≡ pushed p set (now (store .entry)) (firstSixteen (now (numbers .entry)))) ⌝ }
+{
+    let count = record_count(numbers);
+    let blank = Record {
+        place: 0,
+        words: [0; 6],
+    };
+    let mut records = [blank; 16];
+    let mut i: usize = 0;
+    while i < count {
+        let next = pushes::listing::record_at(numbers, i);
+        records[i] = next;
+        i += 1;
+    }
+    push_first(set, store, records, count)
+}

@@ -1,2 +1,0 @@
--- The laws of the calls.
-pub mod Refusals

@@ -1,0 +1,17 @@
+use Prim.Native.Nat.{_≤_, _-_}
+use borrow.Author.Needs.{needs}
+use Rattle.vectors.proofs.field_section.edges_of_one.Statement.{statement}
+use Rattle.vectors.proofs.field_section.edges_of_one.Tie as tie
+
+abbrev Inv-loop : tie.InvT-loop
+Inv-loop entry i₀ i = i ≤ 8
+
+abbrev μ-loop : tie.MeasureT-loop
+μ-loop entry i₀ i = 8 - i
+
+pub edges-of-one-spec : {M : Type 1} → statement M
+edges-of-one-spec =
+    tie.close
+    (tie.spec
+    Inv-loop μ-loop (search needs) (search needs) (search needs) (search needs) (search needs) (search needs) (search needs)
+    (search needs))

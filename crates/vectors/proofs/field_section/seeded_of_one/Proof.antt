@@ -1,0 +1,17 @@
+use Prim.Native.Nat.{_≤_, _-_}
+use borrow.Author.Needs.{needs}
+use Rattle.vectors.proofs.field_section.seeded_of_one.Statement.{statement}
+use Rattle.vectors.proofs.field_section.seeded_of_one.Tie as tie
+
+abbrev Inv-loop : tie.InvT-loop
+Inv-loop entry x₀ counter₀ x counter = counter ≤ 2000
+
+abbrev μ-loop : tie.MeasureT-loop
+μ-loop entry x₀ counter₀ x counter = 2000 - counter
+
+pub seeded-of-one-spec : {M : Type 1} → statement M
+seeded-of-one-spec =
+    tie.close
+    (tie.spec
+    Inv-loop μ-loop (search needs) (search needs) (search needs) (search needs) (search needs) (search needs) (search needs)
+    (search needs) (search needs))

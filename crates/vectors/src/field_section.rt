@@ -1,0 +1,159 @@
+// The section `field`: an entry is named by its index, 0 for sum to 5 for seventh_root.
+use field::P;
+use harness::generator;
+use harness::output;
+use opening_tree::Answer;
+
+const SEEDED_LINES: u64 = 2000;
+
+// the high 32 bits
+const HIGH_HALF: u64 = 18446744069414584320;
+
+const EDGES: [u64; 8] = [
+    0,
+    1,
+    4294967295,
+    4294967296,
+    4294967297,
+    18446744069414584320,
+    18446744069414584321,
+    18446744073709551615,
+];
+
+fn name(entry: u64) {
+    match entry {
+        0 => output::text(b"sum"),
+        1 => output::text(b"difference"),
+        2 => output::text(b"product"),
+        3 => output::text(b"power"),
+        4 => output::text(b"inverse"),
+        _ => output::text(b"seventh_root"),
+    }
+}
+
+// The entry's answer. The last two entries take no b.
+fn answer_of(entry: u64, a: u64, b: u64) -> Answer {
+    match entry {
+        0 => opening_tree::sum(a, b),
+        1 => opening_tree::difference(a, b),
+        2 => opening_tree::product(a, b),
+        3 => opening_tree::power(a, b),
+        4 => opening_tree::inverse(a),
+        _ => opening_tree::seventh_root(a),
+    }
+}
+
+fn refused(number: u8) {
+    output::text(b"refused ");
+    output::number(number as u64);
+}
+
+// A line with the operands.
+fn case_line(entry: u64, a: u64, b: u64) {
+    name(entry);
+    output::operand(a);
+    if entry < 4 {
+        output::operand(b);
+    }
+    match answer_of(entry, a, b) {
+        Answer::Word(w) => {
+            output::text(b" = ");
+            output::number(w);
+        }
+        Answer::Refused(n) => {
+            output::text(b" ");
+            refused(n);
+        }
+    }
+    output::end_line();
+}
+
+// A line with the answer alone.
+fn answer_line(entry: u64, a: u64, b: u64) {
+    match answer_of(entry, a, b) {
+        Answer::Word(w) => output::number(w),
+        Answer::Refused(n) => refused(n),
+    }
+    output::end_line();
+}
+
+fn worked() {
+    case_line(2, P - 1, P - 1);
+    case_line(2, 4294967296, 4294967296);
+    case_line(2, 281474976710656, 281474976710656);
+    case_line(1, 0, 1);
+    case_line(4, 2, 0);
+    case_line(5, 128, 0);
+    case_line(0, P, 0);
+    case_line(0, P - 1, 0);
+    case_line(3, 0, 0);
+}
+
+fn edges_after(entry: u64, a: u64) {
+    for j in 0..8 {
+        case_line(entry, a, EDGES[j]);
+    }
+}
+
+fn edges_of_two(entry: u64) {
+    for i in 0..8 {
+        edges_after(entry, EDGES[i]);
+    }
+}
+
+fn edges_of_one(entry: u64) {
+    for i in 0..8 {
+        case_line(entry, EDGES[i], 0);
+    }
+}
+
+// A drawn number as an operand: one in sixteen has its high bits set, and mostly is no word.
+fn operand(x: u64) -> u64 {
+    if x % 16 == 0 { x | HIGH_HALF } else { x }
+}
+
+fn seeded_of_two(entry: u64) {
+    let mut x = generator::start(entry);
+    for _ in 0..SEEDED_LINES {
+        let a = generator::next(x);
+        x = generator::next(a);
+        if entry == 3 {
+            answer_line(entry, operand(a), x);
+        } else {
+            answer_line(entry, operand(a), operand(x));
+        }
+    }
+}
+
+fn seeded_of_one(entry: u64) {
+    let mut x = generator::start(entry);
+    for _ in 0..SEEDED_LINES {
+        x = generator::next(x);
+        answer_line(entry, operand(x), 0);
+    }
+}
+
+fn seeded_header(entry: u64) {
+    name(entry);
+    output::text(b" seeded");
+    output::operand(SEEDED_LINES);
+    output::end_line();
+}
+
+pub fn print() {
+    output::text(b"section field\n");
+    worked();
+    for e in 0..4 {
+        edges_of_two(e);
+    }
+    edges_of_one(4);
+    edges_of_one(5);
+    for e in 0..4 {
+        seeded_header(e);
+        seeded_of_two(e);
+    }
+    seeded_header(4);
+    seeded_of_one(4);
+    seeded_header(5);
+    seeded_of_one(5);
+}
