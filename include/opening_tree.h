@@ -18,14 +18,16 @@
  *     an opening  h * (k - 1) * l numbers, the siblings: level by level from the leaves up, and at each level the row that holds the node
  *                 above the place, ascending, with that node's own place left out. At level j this node is number place / k^j of the level,
  *                 and (place / k^j) % k of its row.
+ * opening_tree_sizes writes these three counts for a set, so that nobody has to work them out.
  *
  * WHAT IS RETURNED. 0 where the work is done, else the number of a refusal (the names below): of those that apply the lowest. After a
- * refusal every buffer holds what it held, and so do *result, *made and *level. opening_tree_verify returns 0 for an opening that is
- * accepted and for nothing else; for one that is rejected it returns 255, which is no refusal's number. In a function's comment the
- * brackets after a number say what is tested: for 10 the counts of these buffers, for 12 that these numbers are words.
+ * refusal every buffer holds what it held, and so do *result, *made, *level and the sizes that opening_tree_sizes writes.
+ * opening_tree_verify returns 0 for an opening that is accepted and for nothing else; for one that is rejected it returns 255, which is no
+ * refusal's number. In a function's comment the brackets after a number say what is tested: for 10 the counts of these buffers, for 12 that
+ * these numbers are words. The counts of leaves, store and siblings that fit are those of opening_tree_sizes.
  *
  * WHAT MAY BE HANDED IN. Any numbers and any counts: a count says how many numbers are at the pointer before it, and one that does not fit
- * is refused. What C cannot show is presumed: that many numbers are there, one at result, made and level, and what a function writes
+ * is refused. What C cannot show is presumed: that many numbers are there, one at every pointer without a count, and what a function writes
  * overlaps nothing else that it is handed. A pointer before the count 0 is not followed and may be NULL: an opening has no numbers
  * where h is 0, and a push may have no records.
  *
@@ -108,6 +110,12 @@ uint8_t opening_tree_unpermute(OPENING_TREE_SET, uint64_t *state, size_t state_c
 uint8_t opening_tree_compress(OPENING_TREE_SET, const uint64_t *state, size_t state_count, uint64_t *node, size_t node_count);
 
 /* ---- Trees */
+
+/* How many numbers the buffers of the set's tree have, to make them by and to hand in as their counts. Writes *leaves, the leaves_count of
+   the functions below, k^h * l; *store, the store_count, (1 + k + ... + k^h) * l; and *opening, the siblings_count, h * (k - 1) * l, which
+   is 0 where h is 0. A number takes 8 bytes and a buffer fewer than 2^39, so that *store * sizeof(uint64_t) does not overflow. Refusals, in
+   this order: 1 to 9; after one all three hold what they held. */
+uint8_t opening_tree_sizes(OPENING_TREE_SET, uint64_t *leaves, uint64_t *store, uint64_t *opening);
 
 /* The store of the leaves. Writes the whole store, and reads nothing of it. Refusals, in this order: 1 to 9, 10 (leaves, store),
    12 (leaves). */

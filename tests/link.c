@@ -4,6 +4,7 @@
 #include "opening_tree_published.h"
 
 #include <stdio.h>
+#include <stdlib.h>
 #include <string.h>
 
 #define P UINT64_C(18446744069414584321)
@@ -12,8 +13,9 @@ static const uint64_t diagonal[4] = {1, 2, 3, 4};
 static const uint64_t constants[8] = {0, 0, 0, 0, P - 505316, P - 410806, P - 127289, P - 94519};
 static const uint64_t singular[4] = {P - 4, P - 4, P - 4, P - 4};
 
-/* Small numbers, to be worked with by hand, and not safe. */
+/* Small numbers, to be worked with by hand, and not safe; and the same with the height 0. */
 #define T 4, 2, 1, 2, 0, diagonal, 4, constants, 8
+#define LOW 4, 2, 0, 2, 0, diagonal, 4, constants, 8
 
 /* The set that a function here was handed as OPENING_TREE_SET. */
 #define HANDED width, node_size, height, full_rounds, partial_rounds, diagonal, diagonal_count, constants, constants_count
@@ -88,6 +90,65 @@ static void published(void) {
     known(OPENING_TREE_PUBLISHED_12(6, 3), known_12[0][0], known_12[0][1]);
     expect("l = 5", opening_tree_validate(OPENING_TREE_PUBLISHED_12(5, 3)) == OPENING_TREE_BAD_NODE_SIZE);
     expect("h = 33", opening_tree_validate(OPENING_TREE_PUBLISHED_8(4, 33)) == OPENING_TREE_BAD_HEIGHT);
+}
+
+static int has_sizes(OPENING_TREE_SET, uint64_t leaves, uint64_t store, uint64_t opening) {
+    const uint64_t wanted[3] = {leaves, store, opening};
+    uint64_t given[3] = {97, 98, 99};
+    return opening_tree_sizes(HANDED, &given[0], &given[1], &given[2]) == 0 && same(given, wanted, 3);
+}
+
+/* Refused with this number, and all three hold what they held. */
+static int refuses_sizes(OPENING_TREE_SET, uint8_t number) {
+    const uint64_t kept[3] = {97, 98, 99};
+    uint64_t given[3] = {97, 98, 99};
+    return opening_tree_sizes(HANDED, &given[0], &given[1], &given[2]) == number && same(given, kept, 3);
+}
+
+static void sizes(void) {
+    const uint64_t zero[4] = {1, 2, 0, 4}, no_word[4] = {1, 2, 0, P};
+    expect("sizes, T", has_sizes(T, 4, 6, 2));
+    expect("sizes, h = 0", has_sizes(LOW, 2, 2, 0));
+    expect("sizes, k = 3", has_sizes(OPENING_TREE_PUBLISHED_12(4, 2), 9 * 4, (9 + 3 + 1) * 4, 2 * 2 * 4));
+    expect("sizes, k = 4", has_sizes(OPENING_TREE_PUBLISHED_8(2, 3), 64 * 2, (64 + 16 + 4 + 1) * 2, 3 * 3 * 2));
+    expect("sizes, k = 12", has_sizes(OPENING_TREE_PUBLISHED_12(1, 8), 429981696, 469070941, 8 * 11));
+    expect("sizes, the greatest", has_sizes(OPENING_TREE_PUBLISHED_12(6, 32), UINT64_C(25769803776), UINT64_C(51539607546), 32 * 6));
+    expect("no sizes, t = 5", refuses_sizes(5, 0, 33, 3, 65, singular, 3, constants, 7, 1));
+    expect("no sizes, l = 4", refuses_sizes(4, 4, 33, 3, 65, singular, 3, constants, 7, 2));
+    expect("no sizes, R_F = 3", refuses_sizes(4, 2, 33, 3, 65, singular, 3, constants, 7, 3));
+    expect("no sizes, R_P = 65", refuses_sizes(4, 2, 33, 2, 65, singular, 3, constants, 7, 4));
+    expect("no sizes, h = 33", refuses_sizes(4, 2, 33, 2, 0, singular, 3, constants, 7, 5));
+    expect("no sizes, 12^9 leaves", refuses_sizes(OPENING_TREE_PUBLISHED_12(1, 9), 5));
+    expect("no sizes, three words of D", refuses_sizes(4, 2, 1, 2, 0, no_word, 3, constants, 8, 6));
+    expect("no sizes, seven words of C", refuses_sizes(4, 2, 1, 2, 0, no_word, 4, constants, 7, 6));
+    expect("no sizes, p in D", refuses_sizes(4, 2, 1, 2, 0, no_word, 4, constants, 8, 7));
+    expect("no sizes, 0 in D", refuses_sizes(4, 2, 1, 2, 0, zero, 4, constants, 8, 8));
+    expect("no sizes, singular", refuses_sizes(4, 2, 1, 2, 0, singular, 4, constants, 8, 9));
+}
+
+/* A tree in buffers that are made by the sizes: these are the counts that the other functions take, and one more or less is refused. */
+static void buffers(OPENING_TREE_SET) {
+    uint64_t leaves_count = 0, store_count = 0, siblings_count = 0;
+    if (opening_tree_sizes(HANDED, &leaves_count, &store_count, &siblings_count) != 0) abort();
+    /* One number more each, for a count that is refused. */
+    uint64_t *leaves = (uint64_t *)calloc(leaves_count + 1, sizeof *leaves);
+    uint64_t *store = (uint64_t *)calloc(store_count + 1, sizeof *store);
+    uint64_t *siblings = (uint64_t *)calloc(siblings_count + 1, sizeof *siblings);
+    if (leaves == NULL || store == NULL || siblings == NULL) abort();
+    for (uint64_t i = 0; i < leaves_count; i++) leaves[i] = i;
+    const uint64_t *root = store + store_count - node_size, *leaf = leaves + leaves_count - node_size;
+    const uint64_t last = leaves_count / node_size - 1;
+    expect("one leaf number more", opening_tree_build(HANDED, leaves, leaves_count + 1, store, store_count) == 10);
+    expect("one leaf number less", opening_tree_build(HANDED, leaves, leaves_count - 1, store, store_count) == 10);
+    expect("a store of one more", opening_tree_build(HANDED, leaves, leaves_count, store, store_count + 1) == 10);
+    expect("a store of one less", opening_tree_build(HANDED, leaves, leaves_count, store, store_count - 1) == 10);
+    expect("build, by the sizes", opening_tree_build(HANDED, leaves, leaves_count, store, store_count) == 0);
+    expect("an opening of one more", opening_tree_open(HANDED, store, store_count, last, siblings, siblings_count + 1) == 10);
+    expect("open, by the sizes", opening_tree_open(HANDED, store, store_count, last, siblings, siblings_count) == 0);
+    expect("verify, by the sizes", opening_tree_verify(HANDED, root, node_size, last, leaf, node_size, siblings, siblings_count) == 0);
+    free(leaves);
+    free(store);
+    free(siblings);
 }
 
 static void trees(void) {
@@ -174,10 +235,8 @@ static void collisions(void) {
     expect("nothing written", a[0] == 9 && b[3] == 9 && level == 99);
 }
 
-/* NULL with the count 0, for every slice: refused where the slice has numbers, and taken where it has none. T without its lists, and with
-   the height 0. */
+/* NULL with the count 0, for every slice: refused where the slice has numbers, and taken where it has none. T without its lists. */
 #define BARE 4, 2, 1, 2, 0, NULL, 0, NULL, 0
-#define LOW 4, 2, 0, 2, 0, diagonal, 4, constants, 8
 
 static void null_lists(void) {
     uint64_t made = 99, level = 99;
@@ -187,6 +246,7 @@ static void null_lists(void) {
     expect("no lists: permute", opening_tree_permute(BARE, NULL, 0) == 6);
     expect("no lists: unpermute", opening_tree_unpermute(BARE, NULL, 0) == 6);
     expect("no lists: compress", opening_tree_compress(BARE, NULL, 0, NULL, 0) == 6);
+    expect("no lists: sizes", refuses_sizes(BARE, 6));
     expect("no lists: build", opening_tree_build(BARE, NULL, 0, NULL, 0) == 6);
     expect("no lists: root", opening_tree_root(BARE, NULL, 0, NULL, 0) == 6);
     expect("no lists: storeless root", opening_tree_storeless_root(BARE, NULL, 0, NULL, 0) == 6);
@@ -263,6 +323,11 @@ int main(void) {
     field();
     states();
     published();
+    sizes();
+    buffers(T);
+    buffers(LOW);
+    buffers(OPENING_TREE_PUBLISHED_12(4, 2));
+    buffers(OPENING_TREE_PUBLISHED_8(2, 3));
     trees();
     changes();
     records();
