@@ -1,8 +1,9 @@
-//! The nineteen functions of the library, over any numbers and slices. Nothing is presumed: what doesn't fit is refused by a row of
+//! The twenty functions of the library, over any numbers and slices. Nothing is presumed: what doesn't fit is refused by a row of
 //! the table, and after a refusal every buffer holds what it held.
 //!
 //! Below t is the width, l the node size, h the height and k = t / l. A store is its levels one after another, leaves first,
-//! l numbers a node. Every function that takes a set validates it first: rows 1 to 9.
+//! l numbers a node. Every function that takes a set validates it first: rows 1 to 9. The lengths that leaves, stores and siblings must
+//! have are those of [`sizes`].
 //!
 //! ```
 //! use opening_tree::entries::{self, SetNumbers};
@@ -48,6 +49,17 @@ pub struct SetNumbers<'a> {
     pub diagonal: &'a [u64],
     /// C: t × R_F + R_P words in order of use.
     pub constants: &'a [u64],
+}
+
+/// How many numbers the buffers of a set's tree have.
+#[derive(Clone, Copy, Debug, PartialEq, Eq, Hash)]
+pub struct Sizes {
+    /// All leaves: k^h × l.
+    pub leaves: u64,
+    /// A store, which is every node of every level: (1 + k + … + k^h) × l.
+    pub store: u64,
+    /// An opening, which is the siblings of every level: h × (k - 1) × l.
+    pub opening: u64,
 }
 
 /// What `opening_tree_verify` alone returns besides 0 and the rows.
@@ -161,6 +173,27 @@ pub fn unpermute(set: &SetNumbers, state: &mut [u64]) -> Result<(), Refusal> {
 pub fn compress(set: &SetNumbers, state: &[u64], node: &mut [u64]) -> Result<(), Refusal> {
     // SAFETY: each pointer comes with its slice's length, and the slice that is written is borrowed alone.
     done(unsafe { call!(opening_tree_compress, set, state.as_ptr(), state.len(), node.as_mut_ptr(), node.len()) })
+}
+
+/// How many numbers the buffers of a set's tree have. Rows 1 to 9.
+///
+/// ```
+/// use opening_tree::entries::{self, SetNumbers, Sizes};
+/// use opening_tree::{published, Refusal};
+///
+/// let set = published::width_12(4, 2)?; // nodes of four words, three to a row, and nine leaves
+/// let sizes = entries::sizes(&set.numbers())?;
+/// assert_eq!(sizes, Sizes { leaves: 9 * 4, store: (9 + 3 + 1) * 4, opening: 2 * 2 * 4 });
+///
+/// let taller = SetNumbers { height: 21, ..set.numbers() };
+/// assert_eq!(entries::sizes(&taller), Err(Refusal::BadHeight));
+/// # Ok::<(), Refusal>(())
+/// ```
+pub fn sizes(set: &SetNumbers) -> Result<Sizes, Refusal> {
+    let mut sizes = Sizes { leaves: 0, store: 0, opening: 0 };
+    // SAFETY: each pointer comes with its slice's length, and the three numbers that are written are borrowed alone.
+    done(unsafe { call!(opening_tree_sizes, set, &mut sizes.leaves, &mut sizes.store, &mut sizes.opening) })?;
+    Ok(sizes)
 }
 
 /// The whole store of k^h leaves. Rows 1 to 10 and 12.
@@ -323,21 +356,24 @@ mod tests {
         }
     }
 
+    const KEPT: u64 = 0x1234_5678;
+    const P: u64 = crate::field::P;
+
+    /// Small numbers, and not safe.
+    const SMALL: SetNumbers = SetNumbers {
+        width: 4,
+        node_size: 2,
+        height: 1,
+        full_rounds: 2,
+        partial_rounds: 0,
+        diagonal: &[1, 2, 3, 4],
+        constants: &[0; 8],
+    };
+
     /// The numbers beside the slices are left alone too by a call that is refused.
     #[test]
     fn a_refusal_leaves_the_numbers_that_are_written() {
-        const KEPT: u64 = 0x1234_5678;
-        const P: u64 = crate::field::P;
-        // Small numbers, and not safe.
-        let set = SetNumbers {
-            width: 4,
-            node_size: 2,
-            height: 1,
-            full_rounds: 2,
-            partial_rounds: 0,
-            diagonal: &[1, 2, 3, 4],
-            constants: &[0; 8],
-        };
+        let set = SMALL;
         let mut kept = KEPT;
         let number = &mut kept as *mut u64;
         let mut store = [0; 6];
@@ -377,5 +413,27 @@ mod tests {
         };
         assert_eq!(rows, [12, 12, 12, 12, 13, 12, 11, 11, 14]);
         assert_eq!(kept, KEPT);
+    }
+
+    #[test]
+    fn a_refusal_leaves_the_sizes() {
+        let sets = [
+            SetNumbers { width: 5, ..SMALL },
+            SetNumbers { node_size: 4, ..SMALL },
+            SetNumbers { full_rounds: 3, ..SMALL },
+            SetNumbers { partial_rounds: 65, ..SMALL },
+            SetNumbers { height: 33, ..SMALL },
+            SetNumbers { constants: &[0; 7], ..SMALL },
+            SetNumbers { constants: &[P; 8], ..SMALL },
+            SetNumbers { diagonal: &[1, 2, 0, 4], ..SMALL },
+            SetNumbers { diagonal: &[P - 4; 4], ..SMALL },
+        ];
+        for (set, row) in sets.into_iter().zip(1..) {
+            let mut kept = [KEPT, KEPT + 1, KEPT + 2];
+            let [leaves, store, opening] = &mut kept;
+            // SAFETY: each pointer comes with its slice's length, and the three numbers that are written are borrowed alone.
+            let number = unsafe { call!(opening_tree_sizes, set, leaves, store, opening) };
+            assert_eq!((number, kept), (row, [KEPT, KEPT + 1, KEPT + 2]));
+        }
     }
 }

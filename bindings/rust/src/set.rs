@@ -1,6 +1,6 @@
 //! Parameter sets that are validated, and what needs no tree.
 
-use crate::entries::{self, SetNumbers};
+use crate::entries::{self, SetNumbers, Sizes};
 use crate::opening::{Collision, Offer, Opening, Root};
 use crate::refusal::Refusal;
 use crate::verdict::NotAccepted;
@@ -12,6 +12,7 @@ use crate::verdict::NotAccepted;
 ///
 /// let set = published::width_8(4, 32)?;
 /// assert_eq!((set.arity(), set.places()), (2, 1 << 32));
+/// assert_eq!((set.leaf_words(), set.store_words()), ((1 << 32) * 4, ((1 << 33) - 1) * 4));
 /// assert_eq!((set.opening_words(), set.part_words()), (128, 4));
 ///
 /// let taller = SetNumbers { height: 33, ..set.numbers() };
@@ -27,15 +28,15 @@ pub struct ParameterSet {
     partial_rounds: u64,
     diagonal: Vec<u64>,
     constants: Vec<u64>,
+    /// As the library gave them for these numbers.
+    sizes: Sizes,
 }
-
-/// Why the sizes below don't overflow.
-const BOUNDED: &str = "a validated set has at most 2^32 leaves of at most 6 words";
 
 impl ParameterSet {
     /// The set of these numbers, if no row applies. Rows 1 to 9.
     pub fn new(numbers: SetNumbers) -> Result<ParameterSet, Refusal> {
-        entries::validate(&numbers)?;
+        // This validates the set.
+        let sizes = entries::sizes(&numbers)?;
         Ok(ParameterSet {
             width: numbers.width,
             node_size: numbers.node_size,
@@ -44,6 +45,7 @@ impl ParameterSet {
             partial_rounds: numbers.partial_rounds,
             diagonal: numbers.diagonal.to_vec(),
             constants: numbers.constants.to_vec(),
+            sizes,
         })
     }
 
@@ -82,34 +84,27 @@ impl ParameterSet {
 
     /// k^h, the number of leaves.
     pub fn places(&self) -> u64 {
-        self.level_places(0)
+        self.sizes.leaves / self.node_size
     }
 
     /// The words of all leaves.
     pub fn leaf_words(&self) -> usize {
-        size(self.places().checked_mul(self.node_size).expect(BOUNDED))
+        size(self.sizes.leaves)
     }
 
     /// The words of a store: every node of every level.
     pub fn store_words(&self) -> usize {
-        let nodes = (0..=self.height).try_fold(0u64, |nodes, level| nodes.checked_add(self.level_places(level)));
-        size(nodes.and_then(|nodes| nodes.checked_mul(self.node_size)).expect(BOUNDED))
+        size(self.sizes.store)
     }
 
     /// The words of an opening: the siblings of every level.
     pub fn opening_words(&self) -> usize {
-        size(self.height) * self.part_words()
+        size(self.sizes.opening)
     }
 
     /// The words of an opening at one level.
     pub fn part_words(&self) -> usize {
         self.width() - self.node_size()
-    }
-
-    /// The nodes of a level, at most the height.
-    fn level_places(&self, level: u64) -> u64 {
-        let exponent = u32::try_from(self.height - level).expect(BOUNDED);
-        self.arity().checked_pow(exponent).expect(BOUNDED)
     }
 
     /// The permutation of t words, in place. Rows 10 and 12.

@@ -34,6 +34,7 @@ with_a_set! {
     fn opening_tree_permute(state: *mut u64, state_count: usize);
     fn opening_tree_unpermute(state: *mut u64, state_count: usize);
     fn opening_tree_compress(state: *const u64, state_count: usize, node: *mut u64, node_count: usize);
+    fn opening_tree_sizes(leaves: *mut u64, store: *mut u64, opening: *mut u64);
     fn opening_tree_build(leaves: *const u64, leaves_count: usize, store: *mut u64, store_count: usize);
     fn opening_tree_root(store: *const u64, store_count: usize, node: *mut u64, node_count: usize);
     fn opening_tree_storeless_root(leaves: *const u64, leaves_count: usize, node: *mut u64, node_count: usize);

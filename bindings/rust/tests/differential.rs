@@ -4,8 +4,9 @@ mod model;
 mod support;
 
 use model::set::Set;
-use support::calls::{Answer, Call, Entry};
-use support::cases::{call, set_for, set_of, SHAPES};
+use opening_tree::ParameterSet;
+use support::calls::{numbers, Answer, Call, Entry};
+use support::cases::{call, greatest_height, set_for, set_of, SHAPES};
 use support::collisions::{collision, Collision, Kind};
 use support::damage::{damage, EDGES};
 use support::generator::Generator;
@@ -20,6 +21,7 @@ fn library_answers_as_the_model() {
     let generator = &mut Generator(SEED);
     let tally = &mut Tally::default();
     drawn_calls(generator, tally);
+    heights(generator, tally);
     edges_of_sets(generator, tally);
     edges_of_calls(generator, tally);
     collisions(generator, tally);
@@ -42,6 +44,22 @@ fn drawn_calls(generator: &mut Generator, tally: &mut Tally) {
             }
             tally.compare(call);
         }
+    }
+}
+
+/// The sizes of every shape at every height, which are those of a set that is kept, and the first height that is refused.
+fn heights(generator: &mut Generator, tally: &mut Tally) {
+    for shape in SHAPES {
+        let greatest = greatest_height(shape.0, shape.1);
+        for height in 0..=greatest {
+            let set = set_of(generator, shape, height, 2, 1);
+            let kept = ParameterSet::new(numbers(&set)).expect("no row applies");
+            let words = [kept.leaf_words(), kept.store_words(), kept.opening_words()].map(|words| words as u64);
+            assert_eq!(kept.places() as u128, set.places());
+            assert_eq!(tally.compare(Call::sizes(set)), Answer::Sizes(words));
+        }
+        let taller = Set { height: greatest + 1, ..set_of(generator, shape, greatest, 2, 1) };
+        assert_eq!(tally.compare(Call::sizes(taller)), Answer::Refused(5));
     }
 }
 
@@ -71,7 +89,7 @@ fn edges_of_sets(generator: &mut Generator, tally: &mut Tally) {
 fn edges_of_calls(generator: &mut Generator, tally: &mut Tally) {
     for shape in SHAPES {
         for height in 0..=2 {
-            for entry in Entry::ALL.into_iter().filter(|&entry| entry != Entry::Validate) {
+            for entry in Entry::ALL.into_iter().filter(|&entry| !matches!(entry, Entry::Validate | Entry::Sizes)) {
                 let set = set_of(generator, shape, height, 2, 1);
                 edges_of_call(&done_call(generator, entry, set), tally);
             }

@@ -6,7 +6,9 @@ use std::error::Error;
 
 use opening_tree::entries;
 use opening_tree::field::{self, P};
-use opening_tree::{Collision, NotAccepted, Offer, Opening, ParameterSet, Record, Refusal, Root, SetNumbers, Tree, Verdict};
+use opening_tree::{
+    published, Collision, NotAccepted, Offer, Opening, ParameterSet, Record, Refusal, Root, SetNumbers, Sizes, Tree, Verdict,
+};
 
 /// The set T: small numbers, to be worked with by hand, and not safe.
 const T: SetNumbers = SetNumbers {
@@ -202,6 +204,21 @@ fn sets_at_the_edge() {
 }
 
 #[test]
+fn sizes() {
+    let sizes = |set: SetNumbers| entries::sizes(&set).map(|sizes| (sizes.leaves, sizes.store, sizes.opening));
+    assert_eq!(sizes(T), Ok((4, 6, 2)));
+    assert_eq!(sizes(SetNumbers { height: 0, ..T }), Ok((2, 2, 0)));
+    assert_eq!(sizes(SetNumbers { height: 32, ..T }), Ok((8589934592, 17179869182, 64)));
+    let set = published::width_12(4, 2).expect("no row applies");
+    assert_eq!(sizes(set.numbers()), Ok((36, 52, 16)));
+    assert_eq!((set.leaf_words(), set.store_words(), set.opening_words()), (36, 52, 16));
+    let greatest = published::width_12(6, 32).expect("no row applies");
+    assert_eq!(sizes(greatest.numbers()), Ok((25769803776, 51539607546, 192)));
+    assert_eq!(sizes(SetNumbers { height: 33, ..T }), Err(Refusal::BadHeight));
+    assert_eq!(sizes(SetNumbers { diagonal: &[P - 4; 4], ..T }), Err(Refusal::SingularDiagonal));
+}
+
+#[test]
 fn a_collision_above_the_leaves() {
     let set = set(WEAK);
     let root = Root::from(&WEAK_ROOT[..]);
@@ -242,6 +259,7 @@ fn every_function_gives_a_known_answer() {
     assert_eq!(entries::compress(&T, &state, &mut node), Ok(()));
     assert_eq!(node, [6, 4]);
 
+    assert_eq!(entries::sizes(&T), Ok(Sizes { leaves: 4, store: 6, opening: 2 }));
     let mut store = [9; 6];
     assert_eq!(entries::build(&T, &[1, 0, 0, 0], &mut store), Ok(()));
     assert_eq!(store, [1, 0, 0, 0, 6, 4]);

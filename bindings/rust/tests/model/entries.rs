@@ -81,6 +81,12 @@ pub fn compress(set: &Set, state: &[u64], node: &mut [u64]) -> Result<(), u8> {
     Ok(())
 }
 
+/// The numbers of all leaves, of a store and of an opening.
+pub fn sizes(set: &Set) -> Result<[u64; 3], u8> {
+    check_set(set)?;
+    Ok([set.leaf_words(), set.store_words(), set.opening_words()].map(|words| words.try_into().expect("row 5")))
+}
+
 pub fn build(set: &Set, leaves: &[u64], store: &mut [u64]) -> Result<(), u8> {
     check_set(set)?;
     lengths(&[(leaves, set.leaf_words()), (store, set.store_words())])?;

@@ -18,6 +18,7 @@ pub enum Entry {
     Permute,
     Unpermute,
     Compress,
+    Sizes,
     Build,
     Root,
     StorelessRoot,
@@ -30,7 +31,7 @@ pub enum Entry {
 }
 
 impl Entry {
-    pub const ALL: [Entry; 19] = [
+    pub const ALL: [Entry; 20] = [
         Entry::Sum,
         Entry::Difference,
         Entry::Product,
@@ -41,6 +42,7 @@ impl Entry {
         Entry::Permute,
         Entry::Unpermute,
         Entry::Compress,
+        Entry::Sizes,
         Entry::Build,
         Entry::Root,
         Entry::StorelessRoot,
@@ -62,7 +64,7 @@ impl Entry {
         match self {
             Entry::Inverse => vec![12, 13],
             field if field.is_of_field() => vec![12],
-            Entry::Validate => (1..=9).collect(),
+            Entry::Validate | Entry::Sizes => (1..=9).collect(),
             Entry::Open | Entry::Verify | Entry::ReadLevel | Entry::Replace | Entry::Push => (1..=12).collect(),
             Entry::Extract => (1..=12).chain([14, 15]).collect(),
             _ => (1..=10).chain([12]).collect(),
@@ -85,6 +87,8 @@ pub enum Answer {
     Done,
     /// A word, a count or a level.
     Number(u64),
+    /// Of all leaves, a store and an opening.
+    Sizes([u64; 3]),
     Accepted,
     Rejected,
     Refused(u8),
@@ -99,6 +103,12 @@ impl From<Result<(), u8>> for Answer {
 impl From<Result<u64, u8>> for Answer {
     fn from(result: Result<u64, u8>) -> Answer {
         result.map_or_else(Answer::Refused, Answer::Number)
+    }
+}
+
+impl From<Result<[u64; 3], u8>> for Answer {
+    fn from(result: Result<[u64; 3], u8>) -> Answer {
+        result.map_or_else(Answer::Refused, Answer::Sizes)
     }
 }
 
@@ -123,18 +133,28 @@ fn row<T>(result: Result<T, Refusal>) -> Result<T, u8> {
     result.map_err(Refusal::number)
 }
 
+/// The set as the library takes it.
+pub fn numbers(set: &Set) -> SetNumbers<'_> {
+    SetNumbers {
+        width: set.width,
+        node_size: set.node_size,
+        height: set.height,
+        full_rounds: set.full_rounds,
+        partial_rounds: set.partial_rounds,
+        diagonal: &set.diagonal,
+        constants: &set.constants,
+    }
+}
+
 impl Call {
+    /// A call for the sizes of a set.
+    pub fn sizes(set: Set) -> Call {
+        Call { entry: Entry::Sizes, set, numbers: vec![], buffers: vec![] }
+    }
+
     /// Calls the library.
     pub fn ask_library(&mut self) -> Answer {
-        let set = &SetNumbers {
-            width: self.set.width,
-            node_size: self.set.node_size,
-            height: self.set.height,
-            full_rounds: self.set.full_rounds,
-            partial_rounds: self.set.partial_rounds,
-            diagonal: &self.set.diagonal,
-            constants: &self.set.constants,
-        };
+        let set = &numbers(&self.set);
         match (self.entry, &self.numbers[..], &mut self.buffers[..]) {
             (Entry::Sum, &[a, b], []) => row(entries::sum(a, b)).into(),
             (Entry::Difference, &[a, b], []) => row(entries::difference(a, b)).into(),
@@ -146,6 +166,7 @@ impl Call {
             (Entry::Permute, [], [state]) => row(entries::permute(set, state)).into(),
             (Entry::Unpermute, [], [state]) => row(entries::unpermute(set, state)).into(),
             (Entry::Compress, [], [state, node]) => row(entries::compress(set, state, node)).into(),
+            (Entry::Sizes, [], []) => row(entries::sizes(set)).map(|sizes| [sizes.leaves, sizes.store, sizes.opening]).into(),
             (Entry::Build, [], [leaves, store]) => row(entries::build(set, leaves, store)).into(),
             (Entry::Root, [], [store, node]) => row(entries::root(set, store, node)).into(),
             (Entry::StorelessRoot, [], [leaves, node]) => row(entries::storeless_root(set, leaves, node)).into(),
@@ -176,6 +197,7 @@ impl Call {
             (Entry::Permute, [], [state]) => entries::permute(set, state).into(),
             (Entry::Unpermute, [], [state]) => entries::unpermute(set, state).into(),
             (Entry::Compress, [], [state, node]) => entries::compress(set, state, node).into(),
+            (Entry::Sizes, [], []) => entries::sizes(set).into(),
             (Entry::Build, [], [leaves, store]) => entries::build(set, leaves, store).into(),
             (Entry::Root, [], [store, node]) => entries::root(set, store, node).into(),
             (Entry::StorelessRoot, [], [leaves, node]) => entries::storeless_root(set, leaves, node).into(),

@@ -38,7 +38,8 @@ pub fn set_for(generator: &mut Generator, entry: Entry) -> Set {
         3 | 4 => 3,
         _ => 2,
     };
-    let needs_tree = !matches!(entry, Entry::Permute | Entry::Unpermute | Entry::Compress | Entry::Verify | Entry::ReadLevel);
+    let needs_tree =
+        !matches!(entry, Entry::Permute | Entry::Unpermute | Entry::Compress | Entry::Sizes | Entry::Verify | Entry::ReadLevel);
     let greatest = if needs_tree || !generator.once_in(8) { small } else { greatest_height(shape.0, shape.1) };
     let height = generator.below(greatest as usize + 1) as u64;
     // Few rounds mostly, since they cost time.
@@ -106,7 +107,7 @@ pub fn call(generator: &mut Generator, entry: Entry, set: Set) -> Call {
             let word = generator.word();
             (vec![if generator.once_in(2) { field::power(word, 7) } else { word }], vec![])
         }
-        Entry::Validate => (vec![], vec![]),
+        Entry::Validate | Entry::Sizes => (vec![], vec![]),
         Entry::Permute | Entry::Unpermute => (vec![], vec![generator.words(t)]),
         Entry::Compress => (vec![], vec![generator.words(t), generator.junk(l)]),
         Entry::Build => {

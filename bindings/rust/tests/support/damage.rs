@@ -15,8 +15,8 @@ pub fn damage(generator: &mut Generator, call: &mut Call) {
         call.numbers[at] = generator.pick(&[0, 1, P - 1, P, P + 1, u64::MAX]);
         return;
     }
-    // Half of the changes are to the set, but for validation, which has nothing else.
-    if call.entry == Entry::Validate || generator.once_in(2) {
+    // Half of the changes are to the set, but for validation and the sizes, which have nothing else.
+    if matches!(call.entry, Entry::Validate | Entry::Sizes) || generator.once_in(2) {
         damage_set(generator, &mut call.set);
     } else if !call.numbers.is_empty() && generator.once_in(4) {
         call.numbers[0] = place(generator, call);

@@ -9,16 +9,23 @@ const REJECTED: usize = 16;
 
 #[derive(Default)]
 pub struct Tally {
-    counts: [[u64; 17]; 19],
+    counts: [[u64; 17]; Entry::ALL.len()],
     /// Calls that were done though a number in their buffers was not a word, since it is not looked at.
-    passed_over: [u64; 19],
+    passed_over: [u64; Entry::ALL.len()],
     /// Extractions by the level they answered.
     levels: Vec<u64>,
 }
 
 impl Tally {
-    /// Makes the call to the library and to the model, and compares the answers and every buffer.
+    /// Makes the call to the library and to the model, and compares the answers and every buffer; and the sizes of the call's set.
     pub fn compare(&mut self, call: Call) -> Answer {
+        if !call.entry.is_of_field() && call.entry != Entry::Sizes {
+            self.compare_one(Call::sizes(call.set.clone()));
+        }
+        self.compare_one(call)
+    }
+
+    fn compare_one(&mut self, call: Call) -> Answer {
         let (mut library, mut model) = (call.clone(), call.clone());
         let answer = library.ask_library();
         assert_eq!(answer, model.ask_model(), "the answers differ: {call:?}");
@@ -33,7 +40,7 @@ impl Tally {
     fn count(&mut self, call: &Call, answer: Answer) {
         let entry = call.entry as usize;
         let column = match answer {
-            Answer::Done | Answer::Number(_) | Answer::Accepted => DONE,
+            Answer::Done | Answer::Number(_) | Answer::Sizes(_) | Answer::Accepted => DONE,
             Answer::Rejected => REJECTED,
             Answer::Refused(row) => row as usize,
         };
@@ -86,7 +93,7 @@ impl Tally {
             let looks_at_all = match entry {
                 Entry::Power => false,
                 entry if entry.is_of_field() => true,
-                Entry::Validate | Entry::Permute | Entry::Unpermute | Entry::Verify => true,
+                Entry::Validate | Entry::Sizes | Entry::Permute | Entry::Unpermute | Entry::Verify => true,
                 _ => false,
             };
             assert_eq!(self.passed_over[entry as usize] == 0, looks_at_all, "{entry:?}");
