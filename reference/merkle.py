@@ -47,6 +47,14 @@ def siblings_length(s: ParameterSet) -> int:
     return s.height * (arity(s) - 1) * s.node_size
 
 
+def sizes(s: ParameterSet) -> Answer:
+    """A tree's sizes (Rules 4.2, 4.4, 4.7): ("sizes", [leaves, store, opening])."""
+    row = row_of_set(s)
+    if row is not None:
+        return ("refused", row)
+    return ("sizes", [leaves_length(s), store_length(s), siblings_length(s)])
+
+
 def is_place(s: ParameterSet, place: int) -> bool:
     """Whether there is a leaf at this place."""
     return 0 <= place < leaf_count(s)

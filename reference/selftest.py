@@ -125,6 +125,7 @@ def worked_permutation() -> Iterator[Check]:
 def worked_tree() -> Iterator[Check]:
     """The worked tree: two leaves under T."""
     s = set_t()
+    yield "sizes", merkle.sizes(s), ("sizes", [4, 6, 2])
     store = built(s, [1, 0, 0, 0])
     yield "store", store, [1, 0, 0, 0, 6, 4]
     yield "root", merkle.root(s, store), ("words", [6, 4])
@@ -296,6 +297,7 @@ def handed_sets() -> Iterator[Check]:
         yield f"{name} to {value}", refusal_of_set(s), number
         refused = ("refused", number)
         yield f"permute, refused with {number}", poseidon2.permute(s, [P]), refused
+        yield f"sizes, refused with {number}", merkle.sizes(s), refused
         yield f"build, refused with {number}", merkle.build(s, [P], []), refused
         yield f"push, refused with {number}", merkle.push(s, [P], [(9, [P] * 6)]), refused
 
@@ -421,11 +423,27 @@ def seeded_trees(rng: random.Random, partial: int) -> Iterator[SeededTree]:
         yield f"t={width}, l={node_size}, h={height}", s, leaves, built(s, leaves)
 
 
+def sizes() -> Iterator[Check]:
+    """The sizes where they are greatest, and of a tree that is one leaf."""
+    numbers = [1, 2, 3, 4], T_CONSTANTS
+    low = accepted(4, 2, 0, 2, 0, *numbers)
+    yield "k=2, h=0", merkle.sizes(low), ("sizes", [2, 2, 0])
+    tall = accepted(4, 2, 32, 2, 0, *numbers)
+    yield "k=2, h=32", merkle.sizes(tall), ("sizes", [2**33, 2**34 - 2, 64])
+    twelve = [1] * 12, [0] * 24
+    wide = accepted(12, 1, 8, 2, 0, *twelve)
+    yield "k=12, h=8", merkle.sizes(wide), ("sizes", [429981696, 469070941, 88])
+    most = accepted(12, 6, 32, 2, 0, *twelve)
+    yield "the greatest", merkle.sizes(most), ("sizes", [25769803776, 51539607546, 192])
+
+
 def trees() -> Iterator[Check]:
     """Building, storeless root, openings and verdicts agree on every shape."""
     for name, s, leaves, store in seeded_trees(random.Random(3), 1):
         node_size, height = s.node_size, s.height
         root = store[-node_size:]
+        lists = leaves, sum(merkle.levels(s, leaves), []), merkle.stored_siblings(s, store, 0)
+        yield name + " sizes", merkle.sizes(s), ("sizes", [len(made) for made in lists])
         yield name + " leaves", store[: len(leaves)], leaves
         yield name + " root", merkle.root(s, store), ("words", root)
         yield name + " storeless", merkle.storeless_root(s, leaves), ("words", root)
@@ -600,6 +618,7 @@ GROUPS = [
     ("tree_vectors' cases", tree_vectors_cases),
     ("replacements", replacements),
     ("extractions", extractions),
+    ("sizes", sizes),
     ("trees", trees),
     ("leaf book", leaf_book),
     ("histories", histories),
