@@ -49,9 +49,9 @@ def siblings_length(s: ParameterSet) -> int:
 
 def sizes(s: ParameterSet) -> Answer:
     """A tree's sizes (Rules 4.2, 4.4, 4.7): ("sizes", [leaves, store, opening])."""
-    row = row_of_set(s)
-    if row is not None:
-        return ("refused", row)
+    number = refusal_of_set(s)
+    if number is not None:
+        return ("refused", number)
     return ("sizes", [leaves_length(s), store_length(s), siblings_length(s)])
 
 

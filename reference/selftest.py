@@ -355,12 +355,16 @@ def fitting(sections: list) -> Check:
 
 
 def tree_vectors_cases() -> Iterator[Check]:
-    """Each call of the section trees is refused with the numbers that it is made for; all fits."""
+    """Each call of the section trees is refused with the numbers that it is made for, the sizes with
+    those of the set alone; all fits."""
     for what, case in tree_cases.trees_cases():
         if what == tree_cases.CALLS:
             called, (_, last) = tree_vectors.calls_of(case)
             numbers = [number or 0 for number in [*(one for one, _ in called), last]]
             yield f"calls {case}", numbers, case.refusals
+            kind, number = merkle.sizes(case.case.handed())
+            refused = number if kind == "refused" else 0
+            yield f"sizes {case}", refused, case.refusals[0] if case.refusals[0] < 10 else 0
     yield fitting(tree_cases.SECTIONS)
 
 

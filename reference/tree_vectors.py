@@ -10,17 +10,18 @@ states, and an answer A of an entry that writes to a buffer is given as there;
 before the call every number of a tree's buffers is 7. A tree is a line, and a
 line for each place that is asked for:
 
-    T L H F R build A root B storeless_root C
+    T L H F R sizes S build A root B storeless_root C
     place Q open A verify V damaged X Y
 
-where B is the root of the built store and C the root of the leaves, both in
-full. V is the verdict on that root, the place Q, its leaf (words of 0 where
-there is none) and the siblings that open left: `accepted`, `rejected` or
-`refused N`. Of the verdicts with one word of root, leaf and siblings replaced
-by itself plus 1 modulo p, each word in turn, X are accepted and Y rejected.
-A call of each entry on the lists that the input holds is a line
+where S is the sizes of the leaves, of a store and of an opening, or `refused N`,
+B the root of the built store and C the root of the leaves, both in full. V is
+the verdict on that root, the place Q, its leaf (words of 0 where there is none)
+and the siblings that open left: `accepted`, `rejected` or `refused N`. Of the
+verdicts with one word of root, leaf and siblings replaced by itself plus 1
+modulo p, each word in turn, X are accepted and Y rejected. A call of each entry
+on the lists that the input holds is a line
 
-    T L H F R build A root B storeless_root C open D verify V
+    T L H F R sizes S build A root B storeless_root C open D verify V
 
 with digests.
 
@@ -79,6 +80,12 @@ def verdict(kind: str, number: int | None) -> str:
     return f"refused {number}" if kind == "refused" else kind
 
 
+def sized(s: ParameterSet) -> str:
+    """The sizes of a tree, or the refusal."""
+    kind, answer = merkle.sizes(s)
+    return f"refused {answer}" if kind == "refused" else " ".join(map(str, answer))
+
+
 def damaged_verdicts(s: ParameterSet, place: int, words: list[int]) -> list[str]:
     """The kinds of verdict on a root, a leaf and siblings, each word damaged in turn."""
     l = s.node_size
@@ -97,7 +104,7 @@ def tree_lines(what: int, tree: Tree) -> Iterator[str]:
     built = written(merkle.build, s, leaves, [7] * tree.store)
     root = node_of(merkle.root, s, built[1], [7] * l)
     storeless = node_of(merkle.storeless_root, s, leaves, [7] * l)
-    parts = ["build", shown(built), "root", in_full(root)]
+    parts = ["sizes", sized(s), "build", shown(built), "root", in_full(root)]
     yield case_line(tree.case, *parts, "storeless_root", in_full(storeless))
     for place in range(tree.places):
         opened = written(merkle.opening, s, built[1], place, [7] * tree.siblings)
@@ -128,7 +135,8 @@ def calls_line(calls: Calls) -> str:
     called, answer = calls_of(calls)
     names = ["build", "root", "storeless_root", "open"]
     parts = [part for name, one in zip(names, called) for part in (name, as_digest(one))]
-    return case_line(calls.case, *parts, "verify", verdict(*answer))
+    sizes = sized(calls.case.handed())
+    return case_line(calls.case, "sizes", sizes, *parts, "verify", verdict(*answer))
 
 
 def trees_section() -> Iterator[str]:

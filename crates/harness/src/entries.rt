@@ -4,6 +4,7 @@ use crate::lists;
 use crate::output;
 use opening_tree::Changed;
 use opening_tree::Outcome;
+use opening_tree::Sizing;
 use opening_tree::Verdict;
 use parameters::ParameterSet;
 
@@ -68,6 +69,19 @@ pub fn run(
 // The store that building writes, whose answer is printed as a digest.
 pub fn build(set: ParameterSet, leaves: &[u64], size: usize) -> [u64; 1024] {
     run(answers::DIGEST, BUILD, set, leaves, 0, [7u64; 1024], size)
+}
+
+// The sizes of the leaves, of a store and of an opening.
+pub fn print_sizes(set: ParameterSet) {
+    output::text(b" sizes");
+    match opening_tree::sizes(set) {
+        Sizing::Of(sizes) => {
+            output::operand(sizes.leaves);
+            output::operand(sizes.store);
+            output::operand(sizes.opening);
+        }
+        Sizing::Refused(number) => answers::refused(number),
+    }
 }
 
 pub fn print_verdict(verdict: Verdict) {

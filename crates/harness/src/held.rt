@@ -69,6 +69,7 @@ fn print_answers(
     leaf: Held,
     place: u64,
 ) {
+    entries::print_sizes(set);
     output::text(b" build");
     call(entries::BUILD, set, leaves, 0, store);
     output::text(b" root");

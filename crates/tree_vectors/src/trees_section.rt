@@ -176,9 +176,10 @@ fn root_by(entry: u64, set: ParameterSet, from: &[u64], node_size: usize) -> [u6
     )
 }
 
-// The store, the root of it and without it, and the places' lines.
+// The sizes, the store, the root of it and without it, and the places' lines.
 fn tree_lines(manner: u64, set: ParameterSet, leaves: &[u64], sizes: Sizes) {
     let node_size = lists::clamped(set.node_size, 1024);
+    entries::print_sizes(set);
     output::text(b" build");
     let words = entries::run(
         manner,
