@@ -49,12 +49,12 @@ static void states(void) {
     const uint64_t first[4] = {1, 0, 0, 0}, permuted[4] = {5, 4, 1, 1}, compressed[2] = {6, 4};
     uint64_t state[4] = {1, 0, 0, 0}, node[2] = {9, 9};
     expect("validate", opening_tree_validate(T) == 0);
-    expect("row 6", opening_tree_validate(4, 2, 1, 2, 0, diagonal, 4, constants, 7) == 6);
-    expect("row 9", opening_tree_validate(4, 2, 1, 2, 0, singular, 4, constants, 8) == 9);
+    expect("refusal 6", opening_tree_validate(4, 2, 1, 2, 0, diagonal, 4, constants, 7) == 6);
+    expect("refusal 9", opening_tree_validate(4, 2, 1, 2, 0, singular, 4, constants, 8) == 9);
     expect("permute", opening_tree_permute(T, state, 4) == 0 && same(state, permuted, 4));
     expect("unpermute", opening_tree_unpermute(T, state, 4) == 0 && same(state, first, 4));
     expect("a state of three numbers", opening_tree_permute(T, state, 3) == 10 && same(state, first, 4));
-    expect("a set with a row", opening_tree_permute(5, 2, 1, 2, 0, diagonal, 4, constants, 8, state, 4) == 1 && same(state, first, 4));
+    expect("a set that is refused", opening_tree_permute(5, 2, 1, 2, 0, diagonal, 4, constants, 8, state, 4) == 1 && same(state, first, 4));
     expect("compress", opening_tree_compress(T, first, 4, node, 2) == 0 && same(node, compressed, 2));
 }
 
@@ -191,7 +191,7 @@ static void records(void) {
     expect("over 2^32 records", opening_tree_push(T, store, 6, seven, most + 1, &made) == 10 && made == 99 && store[0] == 0);
     expect("more than fit", opening_tree_push(T, store, 6, seven, wraps, &made) == 10 && made == 99 && store[0] == 0);
     expect("the most", opening_tree_push(T, store, 6, seven, SIZE_MAX, &made) == 10 && made == 99 && store[0] == 0);
-    expect("a set with a row", opening_tree_push(4, 2, 1, 2, 0, singular, 4, constants, 8, store, 6, seven, SIZE_MAX, &made) == 9);
+    expect("a set that is refused", opening_tree_push(4, 2, 1, 2, 0, singular, 4, constants, 8, store, 6, seven, SIZE_MAX, &made) == 9);
     expect("seven records", opening_tree_push(T, store, 6, seven, 7, &made) == 0 && made == 7 && same(store, built, 6));
     memset(store, 0, sizeof store);
     expect("the first", opening_tree_push(T, store, 6, seven, 1, &made) == 0 && made == 1 && !same(store, built, 6));

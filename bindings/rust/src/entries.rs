@@ -1,8 +1,8 @@
-//! The twenty functions of the library, over any numbers and slices. Nothing is presumed: what doesn't fit is refused by a row of
+//! The twenty functions of the library, over any numbers and slices. Nothing is presumed: what doesn't fit is refused by a number of
 //! the table, and after a refusal every buffer holds what it held.
 //!
 //! Below t is the width, l the node size, h the height and k = t / l. A store is its levels one after another, leaves first,
-//! l numbers a node. Every function that takes a set validates it first: rows 1 to 9. The lengths that leaves, stores and siblings must
+//! l numbers a node. Every function that takes a set validates it first: refusals 1 to 9. The lengths that leaves, stores and siblings must
 //! have are those of [`sizes`].
 //!
 //! ```
@@ -62,10 +62,10 @@ pub struct Sizes {
     pub opening: u64,
 }
 
-/// What `opening_tree_verify` alone returns besides 0 and the rows.
+/// What `opening_tree_verify` alone returns besides 0 and the refusals' numbers.
 const REJECTED: u8 = 255;
 
-/// The row of a returned number that is not 0.
+/// The refusal of a returned number that is not 0.
 fn refusal(number: u8) -> Refusal {
     match Refusal::from_number(number) {
         Some(refusal) => refusal,
@@ -115,67 +115,67 @@ macro_rules! call {
     };
 }
 
-/// a + b. Row 12.
+/// a + b. Refusal 12.
 pub fn sum(a: u64, b: u64) -> Result<u64, Refusal> {
     // SAFETY: the result is one number that nothing else refers to.
     written(|result| unsafe { sys::opening_tree_sum(a, b, result) })
 }
 
-/// a - b. Row 12.
+/// a - b. Refusal 12.
 pub fn difference(a: u64, b: u64) -> Result<u64, Refusal> {
     // SAFETY: the result is one number that nothing else refers to.
     written(|result| unsafe { sys::opening_tree_difference(a, b, result) })
 }
 
-/// a × b. Row 12.
+/// a × b. Refusal 12.
 pub fn product(a: u64, b: u64) -> Result<u64, Refusal> {
     // SAFETY: the result is one number that nothing else refers to.
     written(|result| unsafe { sys::opening_tree_product(a, b, result) })
 }
 
-/// The base to the power of any exponent; 1 for the exponent 0. Row 12 for the base.
+/// The base to the power of any exponent; 1 for the exponent 0. Refusal 12 for the base.
 pub fn power(base: u64, exponent: u64) -> Result<u64, Refusal> {
     // SAFETY: the result is one number that nothing else refers to.
     written(|result| unsafe { sys::opening_tree_power(base, exponent, result) })
 }
 
-/// The word whose product with x is 1. Rows 12 and 13.
+/// The word whose product with x is 1. Refusals 12 and 13.
 pub fn inverse(x: u64) -> Result<u64, Refusal> {
     // SAFETY: the result is one number that nothing else refers to.
     written(|result| unsafe { sys::opening_tree_inverse(x, result) })
 }
 
-/// The word whose seventh power is y. Row 12.
+/// The word whose seventh power is y. Refusal 12.
 pub fn seventh_root(y: u64) -> Result<u64, Refusal> {
     // SAFETY: the result is one number that nothing else refers to.
     written(|result| unsafe { sys::opening_tree_seventh_root(y, result) })
 }
 
-/// Whether a set is accepted. Rows 1 to 9.
+/// Whether a set is accepted. Refusals 1 to 9.
 pub fn validate(set: &SetNumbers) -> Result<(), Refusal> {
     // SAFETY: each pointer comes with its slice's length.
     done(unsafe { call!(opening_tree_validate, set) })
 }
 
-/// The permutation of t words, in place. Rows 1 to 10 and 12.
+/// The permutation of t words, in place. Refusals 1 to 10 and 12.
 pub fn permute(set: &SetNumbers, state: &mut [u64]) -> Result<(), Refusal> {
     // SAFETY: each pointer comes with its slice's length, and the slice that is written is borrowed alone.
     done(unsafe { call!(opening_tree_permute, set, state.as_mut_ptr(), state.len()) })
 }
 
-/// The words whose permutation is given, in place. Rows 1 to 10 and 12.
+/// The words whose permutation is given, in place. Refusals 1 to 10 and 12.
 pub fn unpermute(set: &SetNumbers, state: &mut [u64]) -> Result<(), Refusal> {
     // SAFETY: each pointer comes with its slice's length, and the slice that is written is borrowed alone.
     done(unsafe { call!(opening_tree_unpermute, set, state.as_mut_ptr(), state.len()) })
 }
 
-/// The compression of t words, written to a node of l. Rows 1 to 10 and 12.
+/// The compression of t words, written to a node of l. Refusals 1 to 10 and 12.
 pub fn compress(set: &SetNumbers, state: &[u64], node: &mut [u64]) -> Result<(), Refusal> {
     // SAFETY: each pointer comes with its slice's length, and the slice that is written is borrowed alone.
     done(unsafe { call!(opening_tree_compress, set, state.as_ptr(), state.len(), node.as_mut_ptr(), node.len()) })
 }
 
-/// How many numbers the buffers of a set's tree have. Rows 1 to 9.
+/// How many numbers the buffers of a set's tree have. Refusals 1 to 9.
 ///
 /// ```
 /// use opening_tree::entries::{self, SetNumbers, Sizes};
@@ -196,32 +196,32 @@ pub fn sizes(set: &SetNumbers) -> Result<Sizes, Refusal> {
     Ok(sizes)
 }
 
-/// The whole store of k^h leaves. Rows 1 to 10 and 12.
+/// The whole store of k^h leaves. Refusals 1 to 10 and 12.
 pub fn build(set: &SetNumbers, leaves: &[u64], store: &mut [u64]) -> Result<(), Refusal> {
     // SAFETY: each pointer comes with its slice's length, and the slice that is written is borrowed alone.
     done(unsafe { call!(opening_tree_build, set, leaves.as_ptr(), leaves.len(), store.as_mut_ptr(), store.len()) })
 }
 
-/// The root of a store, its last l numbers, copied to the node. Rows 1 to 10, and 12 for these l.
+/// The root of a store, its last l numbers, copied to the node. Refusals 1 to 10, and 12 for these l.
 pub fn root(set: &SetNumbers, store: &[u64], node: &mut [u64]) -> Result<(), Refusal> {
     // SAFETY: each pointer comes with its slice's length, and the slice that is written is borrowed alone.
     done(unsafe { call!(opening_tree_root, set, store.as_ptr(), store.len(), node.as_mut_ptr(), node.len()) })
 }
 
-/// The root of k^h leaves, written to the node, without a store. Rows 1 to 10 and 12.
+/// The root of k^h leaves, written to the node, without a store. Refusals 1 to 10 and 12.
 pub fn storeless_root(set: &SetNumbers, leaves: &[u64], node: &mut [u64]) -> Result<(), Refusal> {
     // SAFETY: each pointer comes with its slice's length, and the slice that is written is borrowed alone.
     done(unsafe { call!(opening_tree_storeless_root, set, leaves.as_ptr(), leaves.len(), node.as_mut_ptr(), node.len()) })
 }
 
-/// The opening of a place, h × (k - 1) × l numbers: its siblings at each level from the leaves up. Rows 1 to 11, and 12 for the
+/// The opening of a place, h × (k - 1) × l numbers: its siblings at each level from the leaves up. Refusals 1 to 11, and 12 for the
 /// numbers copied.
 pub fn open(set: &SetNumbers, store: &[u64], place: u64, siblings: &mut [u64]) -> Result<(), Refusal> {
     // SAFETY: each pointer comes with its slice's length, and the slice that is written is borrowed alone.
     done(unsafe { call!(opening_tree_open, set, store.as_ptr(), store.len(), place, siblings.as_mut_ptr(), siblings.len()) })
 }
 
-/// Whether the leaf stood at the place under the root: `Verdict::Accepted` and nothing else is a yes. Rows 1 to 12.
+/// Whether the leaf stood at the place under the root: `Verdict::Accepted` and nothing else is a yes. Refusals 1 to 12.
 pub fn verify(set: &SetNumbers, root: &[u64], place: u64, leaf: &[u64], siblings: &[u64]) -> Verdict {
     // SAFETY: each pointer comes with its slice's length, and nothing is written.
     verdict(unsafe {
@@ -239,14 +239,14 @@ pub fn verify(set: &SetNumbers, root: &[u64], place: u64, leaf: &[u64], siblings
     })
 }
 
-/// The siblings of one level, (k - 1) × l numbers, copied to the part. Rows 1 to 10, 11 for a level not below h, and 12 for the
+/// The siblings of one level, (k - 1) × l numbers, copied to the part. Refusals 1 to 10, 11 for a level not below h, and 12 for the
 /// numbers copied.
 pub fn read_level(set: &SetNumbers, siblings: &[u64], level: u64, part: &mut [u64]) -> Result<(), Refusal> {
     // SAFETY: each pointer comes with its slice's length, and the slice that is written is borrowed alone.
     done(unsafe { call!(opening_tree_read_level, set, siblings.as_ptr(), siblings.len(), level, part.as_mut_ptr(), part.len()) })
 }
 
-/// Puts a leaf at its place in the store, and writes the h nodes above it. Answers the compressions made. Rows 1 to 11, and 12 for
+/// Puts a leaf at its place in the store, and writes the h nodes above it. Answers the compressions made. Refusals 1 to 11, and 12 for
 /// the leaf and the stored siblings that are read.
 pub fn replace(set: &SetNumbers, store: &mut [u64], place: u64, leaf: &[u64]) -> Result<u64, Refusal> {
     // SAFETY: each pointer comes with its slice's length; the slice and the number that are written are borrowed alone.
@@ -255,14 +255,14 @@ pub fn replace(set: &SetNumbers, store: &mut [u64], place: u64, leaf: &[u64]) ->
     })
 }
 
-/// Replacements in order, all or none. Answers the compressions made. Rows 1 to 11, and 12 for the leaves of the records and the whole
+/// Replacements in order, all or none. Answers the compressions made. Refusals 1 to 11, and 12 for the leaves of the records and the whole
 /// store.
 pub fn push(set: &SetNumbers, store: &mut [u64], records: &[Record]) -> Result<u64, Refusal> {
     push_numbers(set, store, record_numbers(records))
 }
 
 /// [`push`] of records that are handed in as a flat list, seven numbers each: a place, and six words of which the first l are the leaf.
-/// Row 10 also for a list that is not a multiple of seven.
+/// Refusal 10 also for a list that is not a multiple of seven.
 ///
 /// [`record_numbers`] makes the flat list of [`Record`]s.
 pub fn push_numbers(set: &SetNumbers, store: &mut [u64], numbers: &[u64]) -> Result<u64, Refusal> {
@@ -273,7 +273,7 @@ pub fn push_numbers(set: &SetNumbers, store: &mut [u64], numbers: &[u64]) -> Res
 }
 
 /// Of two leaves with their openings, both accepted at the place under the root: answers the lowest level at which their rows differ
-/// and compress alike, and writes the first leaf's row to `first_row` and the second's to `second_row`, t numbers each. Rows 1 to 12,
+/// and compress alike, and writes the first leaf's row to `first_row` and the second's to `second_row`, t numbers each. Refusals 1 to 12,
 /// 14 and 15.
 #[allow(clippy::too_many_arguments)] // The C function's own.
 pub fn extract(
@@ -379,7 +379,7 @@ mod tests {
         let mut store = [0; 6];
         let (mut first_row, mut second_row) = ([0; 4], [0; 4]);
         // SAFETY: every count is that of the array before it, and what is written overlaps nothing.
-        let rows = unsafe {
+        let returned = unsafe {
             [
                 sys::opening_tree_sum(P, 0, number),
                 sys::opening_tree_difference(0, P, number),
@@ -411,7 +411,7 @@ mod tests {
                 ),
             ]
         };
-        assert_eq!(rows, [12, 12, 12, 12, 13, 12, 11, 11, 14]);
+        assert_eq!(returned, [12, 12, 12, 12, 13, 12, 11, 11, 14]);
         assert_eq!(kept, KEPT);
     }
 
@@ -428,12 +428,12 @@ mod tests {
             SetNumbers { diagonal: &[1, 2, 0, 4], ..SMALL },
             SetNumbers { diagonal: &[P - 4; 4], ..SMALL },
         ];
-        for (set, row) in sets.into_iter().zip(1..) {
+        for (set, refusal) in sets.into_iter().zip(1..) {
             let mut kept = [KEPT, KEPT + 1, KEPT + 2];
             let [leaves, store, opening] = &mut kept;
             // SAFETY: each pointer comes with its slice's length, and the three numbers that are written are borrowed alone.
             let number = unsafe { call!(opening_tree_sizes, set, leaves, store, opening) };
-            assert_eq!((number, kept), (row, [KEPT, KEPT + 1, KEPT + 2]));
+            assert_eq!((number, kept), (refusal, [KEPT, KEPT + 1, KEPT + 2]));
         }
     }
 }

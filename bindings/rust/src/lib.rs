@@ -14,7 +14,7 @@
 //! # Ok::<(), NotAccepted>(())
 //! ```
 //!
-//! Any numbers may be handed in. A call is done, or refused by a [`Refusal`], a row of one table; after a refusal every buffer and
+//! Any numbers may be handed in. A call is done, or refused by a [`Refusal`]; after a refusal every buffer and
 //! every tree is as it was. A verification is `Ok` for an opening that is accepted and for nothing else: one that is rejected or refused
 //! is an error, [`NotAccepted`].
 //!

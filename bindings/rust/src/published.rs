@@ -105,12 +105,12 @@ pub const CONSTANTS_12: [u64; 118] = [
     17841258728624635591, 10821564568873127316,
 ];
 
-/// The set of the instance at the width 8, for nodes of 1, 2 or 4 words. Rows 2 and 5.
+/// The set of the instance at the width 8, for nodes of 1, 2 or 4 words. Refusals 2 and 5.
 pub fn width_8(node_size: u64, height: u64) -> Result<ParameterSet, Refusal> {
     set(8, node_size, height, &DIAGONAL_8, &CONSTANTS_8)
 }
 
-/// The set of the instance at the width 12, for nodes of 1, 2, 3, 4 or 6 words. Rows 2 and 5.
+/// The set of the instance at the width 12, for nodes of 1, 2, 3, 4 or 6 words. Refusals 2 and 5.
 pub fn width_12(node_size: u64, height: u64) -> Result<ParameterSet, Refusal> {
     set(12, node_size, height, &DIAGONAL_12, &CONSTANTS_12)
 }

@@ -1,9 +1,9 @@
-//! The rows of the table by which a call is refused.
+//! The refusals of a call.
 
 use std::error::Error;
 use std::fmt;
 
-/// Why a call was refused: one row of the table. Of the rows that apply, the lowest is given.
+/// Why a call was refused. Of the refusals that apply, the one with the lowest number is given.
 ///
 /// ```
 /// use opening_tree::{field, Refusal};
@@ -49,7 +49,7 @@ pub enum Refusal {
 }
 
 impl Refusal {
-    /// Every row, in the table's order.
+    /// Every refusal, by its number.
     pub const ALL: [Refusal; 15] = [
         Refusal::BadWidth,
         Refusal::BadNodeSize,
@@ -68,12 +68,12 @@ impl Refusal {
         Refusal::EqualLeaves,
     ];
 
-    /// The row's number, 1 to 15.
+    /// Its number, 1 to 15.
     pub const fn number(self) -> u8 {
         self as u8
     }
 
-    /// The row of a number, if it has one.
+    /// The refusal of a number, if it has one.
     pub fn from_number(number: u8) -> Option<Refusal> {
         Refusal::ALL.into_iter().find(|refusal| refusal.number() == number)
     }

@@ -33,7 +33,7 @@ pub struct ParameterSet {
 }
 
 impl ParameterSet {
-    /// The set of these numbers, if no row applies. Rows 1 to 9.
+    /// The set of these numbers, if it is not refused. Refusals 1 to 9.
     pub fn new(numbers: SetNumbers) -> Result<ParameterSet, Refusal> {
         // This validates the set.
         let sizes = entries::sizes(&numbers)?;
@@ -107,7 +107,7 @@ impl ParameterSet {
         self.width() - self.node_size()
     }
 
-    /// The permutation of t words, in place. Rows 10 and 12.
+    /// The permutation of t words, in place. Refusals 10 and 12.
     ///
     /// ```
     /// let set = opening_tree::published::width_8(4, 1)?;
@@ -122,19 +122,19 @@ impl ParameterSet {
         entries::permute(&self.numbers(), state)
     }
 
-    /// The words whose permutation is given, in place. Rows 10 and 12.
+    /// The words whose permutation is given, in place. Refusals 10 and 12.
     pub fn unpermute(&self, state: &mut [u64]) -> Result<(), Refusal> {
         entries::unpermute(&self.numbers(), state)
     }
 
-    /// The compression of a row of t words: a node of l. Rows 10 and 12.
+    /// The compression of a row of t words: a node of l. Refusals 10 and 12.
     pub fn compress(&self, row: &[u64]) -> Result<Vec<u64>, Refusal> {
         let mut node = vec![0; self.node_size()];
         entries::compress(&self.numbers(), row, &mut node)?;
         Ok(node)
     }
 
-    /// The root of the leaves, without a store. Rows 10 and 12.
+    /// The root of the leaves, without a store. Refusals 10 and 12.
     pub fn storeless_root(&self, leaves: &[u64]) -> Result<Root, Refusal> {
         let mut node = vec![0; self.node_size()];
         entries::storeless_root(&self.numbers(), leaves, &mut node)?;
@@ -142,7 +142,7 @@ impl ParameterSet {
     }
 
     /// `Ok` where the leaf stood at the opening's place under the root, and nowhere else: an opening that is rejected or refused is an
-    /// error. Rows 10 to 12.
+    /// error. Refusals 10 to 12.
     ///
     /// ```
     /// use opening_tree::{published, NotAccepted, Opening, Refusal, Tree};
@@ -167,7 +167,7 @@ impl ParameterSet {
         entries::verify(&self.numbers(), root.words(), opening.place, leaf, &opening.siblings).into_result()
     }
 
-    /// The siblings of one level, k - 1 nodes. No number of another level is looked at. Rows 10, 11 for a level not below h, and 12.
+    /// The siblings of one level, k - 1 nodes. No number of another level is looked at. Refusals 10, 11 for a level not below h, and 12.
     ///
     /// ```
     /// use opening_tree::{published, Opening};
@@ -184,7 +184,7 @@ impl ParameterSet {
     }
 
     /// Of two leaves that are both accepted at a place under one root, the lowest level at which their rows differ and compress
-    /// alike, and these rows. Rows 10 to 12, 14 and 15.
+    /// alike, and these rows. Refusals 10 to 12, 14 and 15.
     pub fn extract(&self, root: &Root, place: u64, first: Offer, second: Offer) -> Result<Collision, Refusal> {
         let mut first_row = vec![0; self.width()];
         let mut second_row = vec![0; self.width()];

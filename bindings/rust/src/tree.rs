@@ -28,7 +28,7 @@ pub struct Tree {
 }
 
 impl Tree {
-    /// The tree of k^h leaves, l words each. Rows 10 and 12.
+    /// The tree of k^h leaves, l words each. Refusals 10 and 12.
     pub fn build(set: &ParameterSet, leaves: &[u64]) -> Result<Tree, Refusal> {
         // Tested before memory is taken for the store, which is then at most twice the leaves.
         if leaves.len() != set.leaf_words() {
@@ -54,7 +54,7 @@ impl Tree {
         &self.store[..self.set.leaf_words()]
     }
 
-    /// The leaf at a place. Row 11.
+    /// The leaf at a place. Refusal 11.
     pub fn leaf(&self, place: u64) -> Result<&[u64], Refusal> {
         let place = usize::try_from(place).map_err(|_| Refusal::BadPlace)?;
         self.leaves().chunks_exact(self.set.node_size()).nth(place).ok_or(Refusal::BadPlace)
@@ -63,23 +63,23 @@ impl Tree {
     /// The root.
     pub fn root(&self) -> Root {
         let mut node = vec![0; self.set.node_size()];
-        entries::root(&self.set.numbers(), &self.store, &mut node).expect("no row applies to a tree's own store");
+        entries::root(&self.set.numbers(), &self.store, &mut node).expect("a tree's own store is never refused");
         Root::from(node)
     }
 
-    /// The opening of a place. Row 11.
+    /// The opening of a place. Refusal 11.
     pub fn open(&self, place: u64) -> Result<Opening, Refusal> {
         let mut siblings = vec![0; self.set.opening_words()];
         entries::open(&self.set.numbers(), &self.store, place, &mut siblings)?;
         Ok(Opening { place, siblings })
     }
 
-    /// Puts a leaf at a place, and answers the compressions made, h. Rows 10 to 12.
+    /// Puts a leaf at a place, and answers the compressions made, h. Refusals 10 to 12.
     pub fn replace(&mut self, place: u64, leaf: &[u64]) -> Result<u64, Refusal> {
         entries::replace(&self.set.numbers(), &mut self.store, place, leaf)
     }
 
-    /// Makes the replacements in order, all or none, and answers the compressions made, h for each. Rows 10 to 12.
+    /// Makes the replacements in order, all or none, and answers the compressions made, h for each. Refusals 10 to 12.
     pub fn push(&mut self, records: &[Record]) -> Result<u64, Refusal> {
         entries::push(&self.set.numbers(), &mut self.store, records)
     }

@@ -21,7 +21,7 @@ pub enum Verdict {
     Accepted,
     /// It ends in another node.
     Rejected,
-    /// A row applies to what was handed in.
+    /// What was handed in is refused.
     Refused(Refusal),
 }
 
@@ -53,7 +53,7 @@ impl Verdict {
 ///
 /// let refused = NotAccepted::from(Refusal::BadPlace);
 /// assert_eq!(refused, NotAccepted::Refused(Refusal::BadPlace));
-/// assert_eq!(refused.to_string(), "refused by row 11");
+/// assert_eq!(refused.to_string(), "refused with 11");
 /// assert_eq!(refused.source().map(|refusal| refusal.to_string()), Some(Refusal::BadPlace.to_string()));
 ///
 /// assert_eq!(NotAccepted::Rejected.to_string(), "rejected: the opening does not end in the root");
@@ -64,7 +64,7 @@ impl Verdict {
 pub enum NotAccepted {
     /// The leaf, put back among its siblings at each level, ends in another node than the root.
     Rejected,
-    /// A row applies to what was handed in.
+    /// What was handed in is refused.
     Refused(Refusal),
 }
 
@@ -78,13 +78,13 @@ impl fmt::Display for NotAccepted {
     fn fmt(&self, f: &mut fmt::Formatter<'_>) -> fmt::Result {
         match self {
             NotAccepted::Rejected => f.write_str("rejected: the opening does not end in the root"),
-            NotAccepted::Refused(refusal) => write!(f, "refused by row {}", refusal.number()),
+            NotAccepted::Refused(refusal) => write!(f, "refused with {}", refusal.number()),
         }
     }
 }
 
 impl Error for NotAccepted {
-    /// The refusal, which says in words what its row is.
+    /// The refusal, which says what it means in words.
     fn source(&self) -> Option<&(dyn Error + 'static)> {
         match self {
             NotAccepted::Rejected => None,

@@ -53,7 +53,7 @@ fn heights(generator: &mut Generator, tally: &mut Tally) {
         let greatest = greatest_height(shape.0, shape.1);
         for height in 0..=greatest {
             let set = set_of(generator, shape, height, 2, 1);
-            let kept = ParameterSet::new(numbers(&set)).expect("no row applies");
+            let kept = ParameterSet::new(numbers(&set)).expect("accepted");
             let words = [kept.leaf_words(), kept.store_words(), kept.opening_words()].map(|words| words as u64);
             assert_eq!(kept.places() as u128, set.places());
             assert_eq!(tally.compare(Call::sizes(set)), Answer::Sizes(words));

@@ -108,7 +108,7 @@ fn a_tree_is_that_of_its_leaves_after_any_changes() {
                 set_of(generator, shape, height, 4, 3);
             let (diagonal, constants) = (&diagonal[..], &constants[..]);
             let numbers = SetNumbers { width, node_size, height, full_rounds, partial_rounds, diagonal, constants };
-            let set = ParameterSet::new(numbers).expect("a set that no row refuses");
+            let set = ParameterSet::new(numbers).expect("an accepted set");
             let leaves = generator.words(set.leaf_words());
             let mut tree = Tree::build(&set, &leaves).expect("words");
             let l = set.node_size();

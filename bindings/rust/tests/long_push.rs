@@ -24,7 +24,7 @@ fn a_push_of_over_2_to_the_32_records_is_refused() {
     assert_ne!(mapped as isize, -1, "the addresses were not granted");
     // SAFETY: the mapping has so many numbers, all 0, that nothing writes.
     let records: &[u64] = unsafe { std::slice::from_raw_parts(mapped.cast(), count) };
-    let set = published::width_8(2, 0).expect("no row applies");
+    let set = published::width_8(2, 0).expect("accepted");
     let mut store = [1, 2];
     assert_eq!(entries::push_numbers(&set.numbers(), &mut store, records), Err(Refusal::BadLength));
     assert_eq!(store, [1, 2]);

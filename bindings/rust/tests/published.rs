@@ -71,10 +71,10 @@ fn known<const T: usize>(set: &ParameterSet, answers: &[Known<T>]) {
 #[test]
 fn published_known_answers() {
     for node_size in [1, 2, 4] {
-        known(&published::width_8(node_size, 3).expect("no row applies"), &KNOWN_8);
+        known(&published::width_8(node_size, 3).expect("accepted"), &KNOWN_8);
     }
     for node_size in [1, 2, 3, 4, 6] {
-        known(&published::width_12(node_size, 3).expect("no row applies"), &KNOWN_12);
+        known(&published::width_12(node_size, 3).expect("accepted"), &KNOWN_12);
     }
 }
 
@@ -102,7 +102,7 @@ fn node_size_and_height_are_the_callers() {
 #[test]
 fn trees_under_published_sets() {
     for set in [published::width_8(4, 3), published::width_8(2, 2), published::width_12(6, 3), published::width_12(4, 2)] {
-        let set = set.expect("no row applies");
+        let set = set.expect("accepted");
         let leaves: Vec<u64> = (0..set.leaf_words() as u64).collect();
         let tree = Tree::build(&set, &leaves).expect("words");
         assert_eq!(tree.store(), model::tree::store(&plain(&set), &leaves));

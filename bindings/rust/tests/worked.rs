@@ -56,7 +56,7 @@ const SECOND: Offer = Offer {
 };
 
 fn set(numbers: SetNumbers) -> ParameterSet {
-    ParameterSet::new(numbers).expect("no row applies")
+    ParameterSet::new(numbers).expect("accepted")
 }
 
 #[test]
@@ -159,7 +159,7 @@ fn every_refusal_is_a_reason() {
         let why = NotAccepted::from(refusal);
         assert_eq!(why, NotAccepted::Refused(refusal));
         assert_eq!(why.source().and_then(|source| source.downcast_ref()), Some(&refusal));
-        assert_eq!(why.to_string(), format!("refused by row {}", refusal.number()));
+        assert_eq!(why.to_string(), format!("refused with {}", refusal.number()));
     }
     assert!(NotAccepted::Rejected.source().is_none());
 }
@@ -209,10 +209,10 @@ fn sizes() {
     assert_eq!(sizes(T), Ok((4, 6, 2)));
     assert_eq!(sizes(SetNumbers { height: 0, ..T }), Ok((2, 2, 0)));
     assert_eq!(sizes(SetNumbers { height: 32, ..T }), Ok((8589934592, 17179869182, 64)));
-    let set = published::width_12(4, 2).expect("no row applies");
+    let set = published::width_12(4, 2).expect("accepted");
     assert_eq!(sizes(set.numbers()), Ok((36, 52, 16)));
     assert_eq!((set.leaf_words(), set.store_words(), set.opening_words()), (36, 52, 16));
-    let greatest = published::width_12(6, 32).expect("no row applies");
+    let greatest = published::width_12(6, 32).expect("accepted");
     assert_eq!(sizes(greatest.numbers()), Ok((25769803776, 51539607546, 192)));
     assert_eq!(sizes(SetNumbers { height: 33, ..T }), Err(Refusal::BadHeight));
     assert_eq!(sizes(SetNumbers { diagonal: &[P - 4; 4], ..T }), Err(Refusal::SingularDiagonal));

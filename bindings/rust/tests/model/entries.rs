@@ -1,4 +1,4 @@
-//! Every function of the library: the first row that applies, or the work.
+//! Every function of the library: the first refusal that applies, or the work.
 
 use super::field;
 use super::permutation;
@@ -7,17 +7,17 @@ use super::tree;
 
 const RECORD_NUMBERS: usize = 7;
 
-/// Row 10: each slice has its exact length.
+/// Refusal 10: each slice has its exact length.
 fn lengths(slices: &[(&[u64], u128)]) -> Result<(), u8> {
     refuse(10, slices.iter().any(|(slice, length)| slice.len() as u128 != *length))
 }
 
-/// Row 11: a place or level is below its bound.
+/// Refusal 11: a place or level is below its bound.
 fn below(number: u64, bound: u128) -> Result<(), u8> {
     refuse(11, number as u128 >= bound)
 }
 
-/// Row 12: every number is a word.
+/// Refusal 12: every number is a word.
 fn words(numbers: &[u64]) -> Result<(), u8> {
     refuse(12, !numbers.iter().all(|&n| field::is_word(n)))
 }
@@ -84,7 +84,7 @@ pub fn compress(set: &Set, state: &[u64], node: &mut [u64]) -> Result<(), u8> {
 /// The numbers of all leaves, of a store and of an opening.
 pub fn sizes(set: &Set) -> Result<[u64; 3], u8> {
     check_set(set)?;
-    Ok([set.leaf_words(), set.store_words(), set.opening_words()].map(|words| words.try_into().expect("row 5")))
+    Ok([set.leaf_words(), set.store_words(), set.opening_words()].map(|words| words.try_into().expect("refusal 5")))
 }
 
 pub fn build(set: &Set, leaves: &[u64], store: &mut [u64]) -> Result<(), u8> {

@@ -1,5 +1,5 @@
 //! A plain model of the library: what each function answers and leaves in its buffers, written from the rules alone and sharing
-//! nothing with the library. A refusal is the number of its row. Each test uses its part.
+//! nothing with the library. A refusal is its number. Each test uses its part.
 #![allow(dead_code)]
 
 pub mod entries;

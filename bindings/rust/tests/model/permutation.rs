@@ -1,4 +1,4 @@
-//! The permutation, its inverse and the compression, of a set and words that no row refuses.
+//! The permutation, its inverse and the compression, of an accepted set and words.
 
 use super::field::{add, add_lists, multiply, seventh_power, seventh_root, subtract, sum_of};
 use super::linear::{inverse_matrix, matrix_of, times};
@@ -66,7 +66,7 @@ pub fn permute(set: &Set, state: &[u64]) -> Vec<u64> {
 /// The partial rounds undone.
 pub fn undo_partial_rounds(diagonal: &[u64], constants: &[u64], state: &[u64]) -> Vec<u64> {
     let layer = matrix_of(diagonal.len(), |state| internal_layer(diagonal, state));
-    let unlayer = inverse_matrix(&layer).expect("rows 8 and 9");
+    let unlayer = inverse_matrix(&layer).expect("refusals 8 and 9");
     let mut state = state.to_vec();
     for &constant in constants.iter().rev() {
         state = times(&unlayer, &state);

@@ -1,4 +1,4 @@
-//! Parameter sets of any numbers, and the rows that refuse them.
+//! Parameter sets of any numbers, and their refusals.
 
 use super::field::{add, inverse, is_word};
 
@@ -20,16 +20,16 @@ pub struct Set {
     pub constants: Vec<u64>,
 }
 
-/// The row's number if the condition applies.
-pub fn refuse(row: u8, condition: bool) -> Result<(), u8> {
+/// The number if the condition applies.
+pub fn refuse(number: u8, condition: bool) -> Result<(), u8> {
     if condition {
-        Err(row)
+        Err(number)
     } else {
         Ok(())
     }
 }
 
-/// Rows 1 to 9. Each test presumes that those before it did not apply.
+/// Refusals 1 to 9. Each test presumes that those before it did not apply.
 pub fn check_set(set: &Set) -> Result<(), u8> {
     let (t, l, h) = (set.width, set.node_size, set.height);
     let not_words = |list: &[u64]| !list.iter().all(|&n| is_word(n));

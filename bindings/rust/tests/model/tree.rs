@@ -1,4 +1,4 @@
-//! Trees of a set and numbers that no row refuses.
+//! Trees of an accepted set and words.
 
 use super::permutation::compress;
 use super::set::Set;

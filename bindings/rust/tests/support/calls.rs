@@ -59,8 +59,8 @@ impl Entry {
         (self as usize) < Entry::Validate as usize
     }
 
-    /// The rows that it can give.
-    pub fn rows(self) -> Vec<u8> {
+    /// The numbers of the refusals that it can give.
+    pub fn refusals(self) -> Vec<u8> {
         match self {
             Entry::Inverse => vec![12, 13],
             field if field.is_of_field() => vec![12],
@@ -129,7 +129,7 @@ impl From<Verdict> for Answer {
 }
 
 /// A refusal as its number.
-fn row<T>(result: Result<T, Refusal>) -> Result<T, u8> {
+fn numbered<T>(result: Result<T, Refusal>) -> Result<T, u8> {
     result.map_err(Refusal::number)
 }
 
@@ -156,27 +156,29 @@ impl Call {
     pub fn ask_library(&mut self) -> Answer {
         let set = &numbers(&self.set);
         match (self.entry, &self.numbers[..], &mut self.buffers[..]) {
-            (Entry::Sum, &[a, b], []) => row(entries::sum(a, b)).into(),
-            (Entry::Difference, &[a, b], []) => row(entries::difference(a, b)).into(),
-            (Entry::Product, &[a, b], []) => row(entries::product(a, b)).into(),
-            (Entry::Power, &[base, exponent], []) => row(entries::power(base, exponent)).into(),
-            (Entry::Inverse, &[x], []) => row(entries::inverse(x)).into(),
-            (Entry::SeventhRoot, &[y], []) => row(entries::seventh_root(y)).into(),
-            (Entry::Validate, [], []) => row(entries::validate(set)).into(),
-            (Entry::Permute, [], [state]) => row(entries::permute(set, state)).into(),
-            (Entry::Unpermute, [], [state]) => row(entries::unpermute(set, state)).into(),
-            (Entry::Compress, [], [state, node]) => row(entries::compress(set, state, node)).into(),
-            (Entry::Sizes, [], []) => row(entries::sizes(set)).map(|sizes| [sizes.leaves, sizes.store, sizes.opening]).into(),
-            (Entry::Build, [], [leaves, store]) => row(entries::build(set, leaves, store)).into(),
-            (Entry::Root, [], [store, node]) => row(entries::root(set, store, node)).into(),
-            (Entry::StorelessRoot, [], [leaves, node]) => row(entries::storeless_root(set, leaves, node)).into(),
-            (Entry::Open, &[place], [store, siblings]) => row(entries::open(set, store, place, siblings)).into(),
+            (Entry::Sum, &[a, b], []) => numbered(entries::sum(a, b)).into(),
+            (Entry::Difference, &[a, b], []) => numbered(entries::difference(a, b)).into(),
+            (Entry::Product, &[a, b], []) => numbered(entries::product(a, b)).into(),
+            (Entry::Power, &[base, exponent], []) => numbered(entries::power(base, exponent)).into(),
+            (Entry::Inverse, &[x], []) => numbered(entries::inverse(x)).into(),
+            (Entry::SeventhRoot, &[y], []) => numbered(entries::seventh_root(y)).into(),
+            (Entry::Validate, [], []) => numbered(entries::validate(set)).into(),
+            (Entry::Permute, [], [state]) => numbered(entries::permute(set, state)).into(),
+            (Entry::Unpermute, [], [state]) => numbered(entries::unpermute(set, state)).into(),
+            (Entry::Compress, [], [state, node]) => numbered(entries::compress(set, state, node)).into(),
+            (Entry::Sizes, [], []) => {
+                numbered(entries::sizes(set)).map(|sizes| [sizes.leaves, sizes.store, sizes.opening]).into()
+            }
+            (Entry::Build, [], [leaves, store]) => numbered(entries::build(set, leaves, store)).into(),
+            (Entry::Root, [], [store, node]) => numbered(entries::root(set, store, node)).into(),
+            (Entry::StorelessRoot, [], [leaves, node]) => numbered(entries::storeless_root(set, leaves, node)).into(),
+            (Entry::Open, &[place], [store, siblings]) => numbered(entries::open(set, store, place, siblings)).into(),
             (Entry::Verify, &[place], [root, leaf, siblings]) => entries::verify(set, root, place, leaf, siblings).into(),
-            (Entry::ReadLevel, &[level], [siblings, part]) => row(entries::read_level(set, siblings, level, part)).into(),
-            (Entry::Replace, &[place], [store, leaf]) => row(entries::replace(set, store, place, leaf)).into(),
-            (Entry::Push, [], [store, records]) => row(entries::push_numbers(set, store, records)).into(),
+            (Entry::ReadLevel, &[level], [siblings, part]) => numbered(entries::read_level(set, siblings, level, part)).into(),
+            (Entry::Replace, &[place], [store, leaf]) => numbered(entries::replace(set, store, place, leaf)).into(),
+            (Entry::Push, [], [store, records]) => numbered(entries::push_numbers(set, store, records)).into(),
             (Entry::Extract, &[place], [root, a, a_siblings, b, b_siblings, a_row, b_row]) => {
-                row(entries::extract(set, root, place, a, a_siblings, b, b_siblings, a_row, b_row)).into()
+                numbered(entries::extract(set, root, place, a, a_siblings, b, b_siblings, a_row, b_row)).into()
             }
             _ => panic!("no such call: {self:?}"),
         }

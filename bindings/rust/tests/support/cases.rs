@@ -9,13 +9,13 @@ use crate::model::tree;
 /// Every width with every node size.
 pub const SHAPES: [(u64, u64); 10] = [(4, 1), (4, 2), (8, 1), (8, 2), (8, 4), (12, 1), (12, 2), (12, 3), (12, 4), (12, 6)];
 
-/// The greatest height that row 5 lets pass.
+/// The greatest height that refusal 5 lets pass.
 pub fn greatest_height(width: u64, node_size: u64) -> u64 {
     let arity = (width / node_size) as u128;
     (0..=32).take_while(|&h| arity.pow(h) <= 1 << 32).last().expect("0 passes").into()
 }
 
-/// A set of this shape that no row refuses, with drawn words.
+/// An accepted set of this shape, with drawn words.
 pub fn set_of(generator: &mut Generator, shape: (u64, u64), height: u64, full_rounds: u64, partial_rounds: u64) -> Set {
     let (width, node_size) = shape;
     loop {
@@ -24,7 +24,7 @@ pub fn set_of(generator: &mut Generator, shape: (u64, u64), height: u64, full_ro
         let set = Set { width, node_size, height, full_rounds, partial_rounds, diagonal, constants };
         match check_set(&set) {
             Ok(()) => return set,
-            Err(row) => assert_eq!(row, 9, "only the diagonal's words are left to chance"),
+            Err(number) => assert_eq!(number, 9, "only the diagonal's words are left to chance"),
         }
     }
 }

@@ -80,7 +80,7 @@ fn damage_set(generator: &mut Generator, set: &mut Set) {
     }
 }
 
-/// Changes one word of the diagonal so that row 9 applies, if there is such a word.
+/// Changes one word of the diagonal so that refusal 9 applies, if there is such a word.
 fn make_singular(generator: &mut Generator, set: &mut Set) {
     if set.diagonal.is_empty() {
         return;

@@ -3,7 +3,7 @@
 use super::calls::{Answer, Call, Entry};
 use crate::model::field::is_word;
 
-/// Rows are at their numbers.
+/// Refusals are at their numbers.
 const DONE: usize = 0;
 const REJECTED: usize = 16;
 
@@ -30,8 +30,8 @@ impl Tally {
         let answer = library.ask_library();
         assert_eq!(answer, model.ask_model(), "the answers differ: {call:?}");
         assert_eq!(library, model, "the buffers differ after {call:?}");
-        if let Answer::Refused(row) = answer {
-            assert_eq!(library, call, "row {row} was given, and a buffer has changed");
+        if let Answer::Refused(number) = answer {
+            assert_eq!(library, call, "refusal {number} was given, and a buffer has changed");
         }
         self.count(&call, answer);
         answer
@@ -42,7 +42,7 @@ impl Tally {
         let column = match answer {
             Answer::Done | Answer::Number(_) | Answer::Sizes(_) | Answer::Accepted => DONE,
             Answer::Rejected => REJECTED,
-            Answer::Refused(row) => row as usize,
+            Answer::Refused(number) => number as usize,
         };
         self.counts[entry][column] += 1;
         let numbers = if call.entry == Entry::Power { &call.numbers[..] } else { &[] };
@@ -66,7 +66,7 @@ impl Tally {
 
     pub fn print(&self) {
         print!("{:14} {:>6}", "", "done");
-        (1..=15).for_each(|row| print!(" {row:>5}"));
+        (1..=15).for_each(|number| print!(" {number:>5}"));
         println!(" rejected  not looked at");
         for entry in Entry::ALL {
             let counts = &self.counts[entry as usize];
@@ -78,12 +78,12 @@ impl Tally {
         println!("calls: {}", self.total());
     }
 
-    /// Every function was done, gave each row that it can and no other; verification rejected too; and numbers that a function does
+    /// Every function was done, gave each refusal that it can and no other; verification rejected too; and numbers that a function does
     /// not look at were not looked at.
     pub fn assert_all_reached(&self) {
         for entry in Entry::ALL {
             let mut expected = vec![DONE];
-            expected.extend(entry.rows().iter().map(|&row| row as usize));
+            expected.extend(entry.refusals().iter().map(|&number| number as usize));
             if entry == Entry::Verify {
                 expected.push(REJECTED);
             }
