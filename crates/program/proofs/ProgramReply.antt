@@ -15,7 +15,7 @@ use Rattle.refusals.specs.Table.{Refusal, refusal, notWords, firstRefusal, refu
 use Rattle.refusals.proofs.Table.{Numbered, next, numbered-append, refusal-none, first-front, first-back, first-none, reply-refused, written-after, applied, passed}
 use Rattle.parameters.specs.declared.ParameterSet.{ParameterSet}
 use Rattle.parameters.specs.declared.Validation.{Validation}
-use Rattle.parameters.specs.ParameterSet.{held, padded, refusedValidation, validation, heldRefusals, setRefusals}
+use Rattle.parameters.specs.ParameterSet.{held, padded, validation, heldRefusals, setRefusals}
 use Rattle.parameters.specs.Refusals.{constantCount, numberRefusals, listRefusals, badLengths, validationRefusals}
 use Rattle.parameters.proofs.Accepted.{numbers-of, numbers-numbered, lists-numbered, set-numbered, width-fits}
 use Rattle.merkle.specs.Storeless.{storelessRoot}
@@ -67,18 +67,13 @@ module _ (p t l h rf rp : ℕ) (D C : List ℕ) where
   abbrev refusals : List Refusal
   refusals = validationRefusals p t l h rf rp D C
 
-  rows-numbered : Numbered refusals
+  all-numbered : Numbered refusals
   unfolding validationRefusals
-  rows-numbered = numbered-append (numbers-numbered t l h rf rp) (next (lit< tt) (lists-numbered p D C))
+  all-numbered = numbered-append (numbers-numbered t l h rf rp) (next (lit< tt) (lists-numbered p D C))
 
   number-is : validation p t l h rf rp D C .number ≡ firstRefusal refusals
-  unfolding validation refusedValidation
-  number-is = at (eqb (firstRefusal refusals) 0) refl
-    where
-      at : (b : Bool) → eqb (firstRefusal refusals) 0 ≡ b
-          → cond b (record { number = 0; parameters = held t l h rf rp D C }) (refusedValidation (firstRefusal refusals)) .number ≡ firstRefusal refusals
-      at true e = sym (eqb-true (firstRefusal refusals) 0 e)
-      at false e = refl
+  unfolding validation
+  number-is = refl
 
   module _ (none-applies : firstRefusal refusals ≡ 0) where
     set-is : validation p t l h rf rp D C .parameters ≡ held t l h rf rp D C
@@ -111,13 +106,13 @@ module _ (p t l h rf rp : ℕ) (D C : List ℕ) where
         omega (arith, mul-le-mul-right l (N .nodeSize .several), div-mul-le-self t l, width-fits t (N .width))
 
 module _ (p : ℕ) (ns : List ℕ) (v : Validation) (e : v ≡ readValidation p ns) where
-  abbrev validRows : List Refusal
-  validRows = refusals p (readWidth ns) (readNodeSize ns) (readHeight ns) (readFullRounds ns) (readPartialRounds ns) (readDiagonal ns) (readConstants ns)
+  abbrev validRefusals : List Refusal
+  validRefusals = refusals p (readWidth ns) (readNodeSize ns) (readHeight ns) (readFullRounds ns) (readPartialRounds ns) (readDiagonal ns) (readConstants ns)
 
-  abbrev leafRows : List Refusal
-  leafRows = refusal 10 (not (has (readLeaves ns) (leafWords p (readSet ns)))) ∷ notWords p (readLeaves ns) ∷ []
+  abbrev leafRefusals : List Refusal
+  leafRefusals = refusal 10 (not (has (readLeaves ns) (leafWords p (readSet ns)))) ∷ notWords p (readLeaves ns) ∷ []
 
-  first-is : v .number ≡ firstRefusal validRows
+  first-is : v .number ≡ firstRefusal validRefusals
   unfolding readValidation
   first-is = ap (λ (w : Validation). w .number) e ∙ number-is p _ _ _ _ _ _ _
 
@@ -125,11 +120,11 @@ module _ (p : ℕ) (ns : List ℕ) (v : Validation) (e : v ≡ readValidation p 
   pub is-refused : v .number ≢ 0 → reply (readRefusals p ns) (readRoot p ns) ≡ refused (v .number)
   unfolding readRefusals
   is-refused o =
-      let front : firstRefusal (validRows ++ leafRows) ≡ firstRefusal validRows = first-front validRows leafRows (λ z. o (first-is ∙ z)) in
-      reply-refused (validRows ++ leafRows) (readRoot p ns) (λ z. o (first-is ∙ sym front ∙ z)) ∙ ap refused (front ∙ sym first-is)
+      let front : firstRefusal (validRefusals ++ leafRefusals) ≡ firstRefusal validRefusals = first-front validRefusals leafRefusals (λ z. o (first-is ∙ z)) in
+      reply-refused (validRefusals ++ leafRefusals) (readRoot p ns) (λ z. o (first-is ∙ sym front ∙ z)) ∙ ap refused (front ∙ sym first-is)
 
   module _ (z : v .number ≡ 0) where
-    none-of : firstRefusal validRows ≡ 0
+    none-of : firstRefusal validRefusals ≡ 0
     none-of = sym first-is ∙ z
 
     set-of : v .parameters ≡ readSet ns
@@ -142,24 +137,24 @@ module _ (p : ℕ) (ns : List ℕ) (v : Validation) (e : v ≡ readValidation p 
 
     module _ (node : List ℕ) (long : length node ≡ v .parameters .«node_size») where
       -- the storeless root's reply is that of the leaves' refusals
-      by-leaves : storelessReply p (v .parameters) (readLeaves ns) node ≡ reply leafRows []
+      by-leaves : storelessReply p (v .parameters) (readLeaves ns) node ≡ reply leafRefusals []
       unfolding storelessReply storelessRefusals
       by-leaves = rw (and-true (has (readLeaves ns) (leafWords p (v .parameters))) (has node (v .parameters .«node_size»)) (eq-eqb _ _ long), set-of)
-          (reply-back (setRefusals p (readSet ns)) leafRows [] (set-numbered p (readSet ns)) (passes-again p _ _ _ _ _ _ _ none-of))
+          (reply-back (setRefusals p (readSet ns)) leafRefusals [] (set-numbered p (readSet ns)) (passes-again p _ _ _ _ _ _ _ none-of))
 
-      by-rows : reply (readRefusals p ns) (readRoot p ns) ≡ reply leafRows (readRoot p ns)
+      by-refusals : reply (readRefusals p ns) (readRoot p ns) ≡ reply leafRefusals (readRoot p ns)
       unfolding readRefusals
-      by-rows = reply-back validRows leafRows (readRoot p ns) (rows-numbered p _ _ _ _ _ _ _) none-of
+      by-refusals = reply-back validRefusals leafRefusals (readRoot p ns) (all-numbered p _ _ _ _ _ _ _) none-of
 
       -- The leaves are refused, or there is a root.
       pub root-refused : (n : ℕ) → refused n ≡ storelessReply p (v .parameters) (readLeaves ns) node → reply (readRefusals p ns) (readRoot p ns) ≡ refused n
-      root-refused n r = by-rows ∙ refused-too leafRows [] (readRoot p ns) n (r ∙ by-leaves)
+      root-refused n r = by-refusals ∙ refused-too leafRefusals [] (readRoot p ns) n (r ∙ by-leaves)
 
       pub root-done : done [] ≡ storelessReply p (v .parameters) (readLeaves ns) node
           → reply (readRefusals p ns) (readRoot p ns) ≡ done (storelessRooted p (v .parameters) (readLeaves ns) node)
       unfolding storelessRooted readRoot held
       root-done r =
-          by-rows ∙ done-too leafRows [] (readRoot p ns) (r ∙ by-leaves)
+          by-refusals ∙ done-too leafRefusals [] (readRoot p ns) (r ∙ by-leaves)
           ∙ ap done (written-after node (readRoot p ns) (sym r) ∙ ap (λ (s : ParameterSet). after (storelessReply p (v .parameters) (readLeaves ns) node) node (storelessRoot (treeOf p s) (s .height) (readLeaves ns))) (sym set-of))
 
       -- The program's text, by the outcome.
