@@ -8,7 +8,7 @@ use lib.Dec.{lit<, leb}
 use Rattle.modular.specs.Goldilocks.{p}
 use Rattle.modular.specs.Arithmetic.{allWords}
 use Rattle.refusals.specs.Table.{firstRefusal}
-use Rattle.refusals.proofs.Table.{Numbered, none as no-rows, next, numbered-append, refusal-applies, refusal-passes, first-front, first-back}
+use Rattle.refusals.proofs.Table.{Numbered, none as no-refusals, next, numbered-append, refusal-applies, refusal-passes, first-front, first-back}
 use Rattle.parameters.specs.declared.ParameterSet.{ParameterSet}
 use Rattle.parameters.specs.ParameterSet.{setRefusals}
 use Rattle.parameters.proofs.Accepted.{set-numbered}
@@ -22,7 +22,7 @@ module _ (s : ParameterSet) (store : List ℕ) (n : ℕ) where
 
   pub early-numbered : Numbered (earlyRefusals p s store n)
   unfolding earlyRefusals
-  early-numbered = numbered-append (set-numbered p s) (next (lit< tt) no-rows)
+  early-numbered = numbered-append (set-numbered p s) (next (lit< tt) no-refusals)
 
   pub early-set : firstRefusal (setRefusals p s) ≢ 0 → firstRefusal (earlyRefusals p s store n) ≡ firstRefusal (setRefusals p s)
   unfolding earlyRefusals

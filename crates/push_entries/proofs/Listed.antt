@@ -48,9 +48,9 @@ module _ (s : ParameterSet) (xs ns : List ℕ) where
   abbrev late : List Refusal
   late = refusal 11 (not (placesBelow (leafCount p s) rs)) ∷ notWords p (usedWords (s .«node_size») rs ++ xs) ∷ []
 
-  part-row : length ns % 7 ≢ 0 → firstRefusal (listedRefusals p s xs ns) ≡ partRefusal s
+  part-refusal : length ns % 7 ≢ 0 → firstRefusal (listedRefusals p s xs ns) ≡ partRefusal s
   unfolding listedRefusals wholeRecords
-  part-row o =
+  part-refusal o =
       ap (λ (b : Bool). firstRefusal (setRefusals p s ++ (refusal 10 b ∷ late))) (no-length (has xs (storeWords p s)) (wholeRecords ns) (fewRecords rs) (ne-eqb (length ns % 7) 0 o))
       ∙ ap firstRefusal (sym (append-assoc (setRefusals p s) (refusal 10 true ∷ []) late))
       ∙ first-front (setRefusals p s ++ (refusal 10 true ∷ [])) late (part-refused s)
@@ -58,17 +58,17 @@ module _ (s : ParameterSet) (xs ns : List ℕ) where
   pub part-is-refused : length ns % 7 ≢ 0 → (k : ℕ) → k ≡ partRefusal s → (refused k ≡ listedReply p s xs ns) × (xs ≡ listedPushed p s xs ns)
   unfolding listedReply listedPushed
   part-is-refused o k f =
-      refused-equations (listedRefusals p s xs ns) (pushing p s xs rs .made ∷ []) xs (pushing p s xs rs .store) k (f ∙ sym (part-row o)) (λ z. part-refused s (sym f ∙ z))
+      refused-equations (listedRefusals p s xs ns) (pushing p s xs rs .made ∷ []) xs (pushing p s xs rs .store) k (f ∙ sym (part-refusal o)) (λ z. part-refused s (sym f ∙ z))
 
   -- ---- a list of whole records
 
-  whole-rows : length ns % 7 ≡ 0 → pushRefusals p s xs rs ≡ listedRefusals p s xs ns
+  whole-refusals : length ns % 7 ≡ 0 → pushRefusals p s xs rs ≡ listedRefusals p s xs ns
   unfolding pushRefusals listedRefusals wholeRecords
-  whole-rows e = rw (eq-eqb (length ns % 7) 0 e)
+  whole-refusals e = rw (eq-eqb (length ns % 7) 0 e)
 
   pub whole-reply : length ns % 7 ≡ 0 → pushReply p s xs rs ≡ listedReply p s xs ns
   unfolding pushReply listedReply
-  whole-reply e = ap (λ (refusals : List Refusal). reply refusals (pushing p s xs rs .made ∷ [])) (whole-rows e)
+  whole-reply e = ap (λ (refusals : List Refusal). reply refusals (pushing p s xs rs .made ∷ [])) (whole-refusals e)
 
   pub whole-pushed : length ns % 7 ≡ 0 → pushed p s xs rs ≡ listedPushed p s xs ns
   unfolding pushed listedPushed

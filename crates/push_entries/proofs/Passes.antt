@@ -125,16 +125,16 @@ module _ (s : ParameterSet) (xs : List ℕ) (ys : List Record) where
   first-pass zero = test-all s ys n true (allWords p xs) 0 xs
   first-pass (suc k) = test-none s ys (begun (suc k) n (allWords p xs)) xs (ne-eqb (suc k) 0 (λ z. absurd (omega (arith, z))))
 
-  rows-are : pushRefusals p s xs ys ≡ early ++ late
+  refusals-are : pushRefusals p s xs ys ≡ early ++ late
   unfolding pushRefusals earlyRefusals
-  rows-are = sym (append-assoc (setRefusals p s) (refusal 10 (not (has xs (storeWords p s) && leb (length ys) (2 ^ 32))) ∷ []) late)
+  refusals-are = sym (append-assoc (setRefusals p s) (refusal 10 (not (has xs (storeWords p s) && leb (length ys) (2 ^ 32))) ∷ []) late)
 
-  rows-numbered : Numbered (pushRefusals p s xs ys)
+  push-numbered : Numbered (pushRefusals p s xs ys)
   unfolding pushRefusals
-  rows-numbered = all-numbered p _ (set-numbered p s) _ _ _
+  push-numbered = all-numbered p _ (set-numbered p s) _ _ _
 
-  late-row : firstRefusal early ≡ 0 → firstRefusal (pushRefusals p s xs ys) ≡ firstRefusal late
-  late-row e = ap firstRefusal rows-are ∙ first-back early late (early-numbered s xs (length ys)) e
+  late-refusal : firstRefusal early ≡ 0 → firstRefusal (pushRefusals p s xs ys) ≡ firstRefusal late
+  late-refusal e = ap firstRefusal refusals-are ∙ first-back early late (early-numbered s xs (length ys)) e
 
   -- what the push claims of the tally and the store at its end
   abbrev Right : Pass → Type 0
@@ -150,17 +150,17 @@ module _ (s : ParameterSet) (xs : List ℕ) (ys : List Record) where
   unfolding mayWrite finishOf changedReply pushReply pushed push
   second-pass true true f g e =
       let words : allWords p (used ++ xs) ≡ true = words-of-both used xs ∙ and-comm (allWords p used) (allWords p xs) ∙ g in
-      let z = late-row e ∙ refusal-passes 11 (not (placesBelow n ys)) (notWords p (used ++ xs) ∷ []) (ap not f) ∙ no-twelve p (used ++ xs) words in
-      subst Right (sym (write-all s ys n 0 xs f)) (done-equations (pushRefusals p s xs ys) (pushing p s xs ys .made ∷ []) xs (pushing p s xs ys .store) rows-numbered z)
+      let z = late-refusal e ∙ refusal-passes 11 (not (placesBelow n ys)) (notWords p (used ++ xs) ∷ []) (ap not f) ∙ no-twelve p (used ++ xs) words in
+      subst Right (sym (write-all s ys n 0 xs f)) (done-equations (pushRefusals p s xs ys) (pushing p s xs ys .made ∷ []) xs (pushing p s xs ys .store) push-numbered z)
   second-pass true false f g e =
       let words : allWords p (used ++ xs) ≡ false = words-of-both used xs ∙ and-comm (allWords p used) (allWords p xs) ∙ g in
-      let z = late-row e ∙ refusal-passes 11 (not (placesBelow n ys)) (notWords p (used ++ xs) ∷ []) (ap not f) ∙ twelve p (used ++ xs) words in
+      let z = late-refusal e ∙ refusal-passes 11 (not (placesBelow n ys)) (notWords p (used ++ xs) ∷ []) (ap not f) ∙ twelve p (used ++ xs) words in
       subst Right (sym (write-none s ys (pass (clear n true false 0) xs) no-words)) (is-refused 12 (clear n true false 0) refl (λ y. absurd (omega (arith, y))) z)
     where
       no-words : (q : ℕ) → mayWrite (clear n true false 0) q ≡ false
       no-words q = refl
   second-pass false w f g e =
-      let z = late-row e ∙ refusal-applies 11 (not (placesBelow n ys)) (notWords p (used ++ xs) ∷ []) (ap not f) in
+      let z = late-refusal e ∙ refusal-applies 11 (not (placesBelow n ys)) (notWords p (used ++ xs) ∷ []) (ap not f) in
       subst Right (sym (write-none s ys (pass (clear n false w 0) xs) no-place)) (is-refused 11 (clear n false w 0) refl (λ y. absurd (omega (arith, y))) z)
     where
       no-place : (q : ℕ) → mayWrite (clear n false w 0) q ≡ false
@@ -170,14 +170,14 @@ module _ (s : ParameterSet) (xs : List ℕ) (ys : List Record) where
   unfolding mayWrite finishOf changedReply
   both-passes zero e = second-pass (placesBelow n ys) (allWords p xs && allWords p used) refl refl e
   both-passes (suc k) e =
-      let z = ap firstRefusal rows-are ∙ first-front early late (λ y. absurd (omega (arith, e, y))) ∙ e in
-      subst Right (sym (write-none s ys (pass (tested (suc k)) xs) has-row)) (is-refused (suc k) (tested (suc k)) finished (λ y. absurd (omega (arith, y))) z)
+      let z = ap firstRefusal refusals-are ∙ first-front early late (λ y. absurd (omega (arith, e, y))) ∙ e in
+      subst Right (sym (write-none s ys (pass (tested (suc k)) xs) is-refused-early)) (is-refused (suc k) (tested (suc k)) finished (λ y. absurd (omega (arith, y))) z)
     where
       no : eqb (suc k) 0 ≡ false
       no = ne-eqb (suc k) 0 (λ z. absurd (omega (arith, z)))
 
-      has-row : (q : ℕ) → mayWrite (tested (suc k)) q ≡ false
-      has-row q = rw no
+      is-refused-early : (q : ℕ) → mayWrite (tested (suc k)) q ≡ false
+      is-refused-early q = rw no
 
       finished : changedReply (finishOf (tested (suc k))) ≡ refused (suc k)
       finished = rw no

@@ -31,9 +31,9 @@ leaf-in-record s none =
 
 -- ---- a write that is allowed
 
-pub may-no-row : (t : Tally) (q : ℕ) → mayWrite t q ≡ true → t .number ≡ 0
+pub may-unrefused : (t : Tally) (q : ℕ) → mayWrite t q ≡ true → t .number ≡ 0
 unfolding mayWrite
-may-no-row t q e = eqb-true (t .number) 0 (left-true (eqb (t .number) 0) (t .placed && (t .words && ltb q (t .places))) e)
+may-unrefused t q e = eqb-true (t .number) 0 (left-true (eqb (t .number) 0) (t .placed && (t .words && ltb q (t .places))) e)
 
 pub may-inside : (t : Tally) (q : ℕ) → mayWrite t q ≡ true → q < t .places
 unfolding mayWrite
@@ -77,7 +77,7 @@ write-follows s r u accepted = go (mayWrite (u .tally) (r .place)) refl
 
     go : (b : Bool) → mayWrite (u .tally) (r .place) ≡ b → Follows (u .tally) (cond b (wrote (u .tally) done) u .tally)
     go true e =
-        let none = accepted (may-no-row (u .tally) (r .place) e) in
+        let none = accepted (may-unrefused (u .tally) (r .place) e) in
         let counts : done .made ≡ u .tally .made + s .height =
         replace-made (treeOf p s) (tree-of.shape-regular s none) (s .height) (r .place) (leafOf (s .«node_size») r) (counted (u .store) (u .tally .made)) in
         record { number = refl; places = refl; made = omega (arith, counts, tree-of.valid-numbers s none .low) }

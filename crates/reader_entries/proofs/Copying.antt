@@ -34,9 +34,9 @@ module _ (s : ParameterSet) (siblings : List ℕ) (j : ℕ) (buffer : List ℕ) 
   unfolding copyRefusals
   numbered = three.all-numbered p _ (set-numbered p s) _ _ _
 
-  pub passed-rows : firstRefusal (copyRefusals p s siblings j buffer) ≡ 0 → Passed s siblings j buffer
+  pub passed-refusals : firstRefusal (copyRefusals p s siblings j buffer) ≡ 0 → Passed s siblings j buffer
   unfolding copyRefusals
-  passed-rows z =
+  passed-refusals z =
       let P = three.passed p (setRefusals p s) (set-numbered p s) (not (has siblings (openingWords p s) && has buffer (partWords p s))) (not (ltb j (s .height))) _ z in
       let both = not-false (has siblings (openingWords p s) && has buffer (partWords p s)) (P .lengths) in
       record {

@@ -3,7 +3,7 @@ use native.Mathlib.Omega.{arith}
 use borrow.Author.Needs.{needs}
 use borrow.Author.Tests.{eq-eqb, ne-eqb, not-true, not-false}
 use Rattle.pushes.specs.Passes.{counting, stepOf, writeOf}
-use Rattle.pushes.proofs.Records.{may-no-row, may-inside}
+use Rattle.pushes.proofs.Records.{may-unrefused, may-inside}
 use Rattle.pushes.proofs.steps.step.Statement.{statement}
 use Rattle.pushes.proofs.steps.step.Tie as tie
 
@@ -27,7 +27,7 @@ write-record-requires c κs =
     let i = e .before .before .before .before in
     let t = i .args .tally in
     let may = sym (e .before .may-write .ensures) ∙ not-false _ (e .if2 .left) in
-    let z = may-no-row t _ may in
+    let z = may-unrefused t _ may in
     (i .pre .accepted z, i .pre .whole z, rw (sym (i .pre .places z)) (may-inside t _ may), omega (arith, i .pre .counts))
 
 same-length : tie.Need-same-length

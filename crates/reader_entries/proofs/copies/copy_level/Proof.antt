@@ -7,7 +7,7 @@ use Rattle.modular.specs.Goldilocks.{p}
 use Rattle.refusals.proofs.Table.{refused-equations, done-equations}
 use Rattle.state_entries.specs.Permutation.{outcomeReply}
 use Rattle.reader_entries.specs.Copies.{copyRefusals, copyReply, copied}
-use Rattle.reader_entries.proofs.Copying.{Passed, numbered, passed-rows, part-long, whole-copy}
+use Rattle.reader_entries.proofs.Copying.{Passed, numbered, passed-refusals, part-long, whole-copy}
 use Rattle.reader_entries.proofs.copies.copy_level.Statement.{statement}
 use Rattle.reader_entries.proofs.copies.copy_level.Tie as tie
 
@@ -22,7 +22,7 @@ unfolding outcomeReply copyReply copied
 returns c = refused-equations (copyRefusals p _ _ _ _) [] _ _ _ (c .before .refusal-of-copy .ensures) (c .if1 .taken)
 
 passes : (c : tie.Else1) → Passed (c .before .before .before .before .before .args .set) (c .before .before .before .before .before .args .siblings .now) (c .before .before .before .before .before .args .level) (c .before .before .before .before .before .args .buffer .now)
-passes c = passed-rows _ _ _ _ (sym (c .before .refusal-of-copy .ensures) ∙ c .if1 .left)
+passes c = passed-refusals _ _ _ _ (sym (c .before .refusal-of-copy .ensures) ∙ c .if1 .left)
 
 level-words-requires : tie.Need-level-words-requires
 level-words-requires c κs = (passes c .set, passes c .long, passes c .level)

@@ -56,9 +56,9 @@ use Rattle.reader_entries.proofs.reading.OpeningReader.Laws as views′
 use Rattle.reader_entries.proofs.reading.Part as parts
 use Rattle.reader_entries.proofs.reading.Part.Laws as parts′
 use Rattle.reader_entries.proofs.levels.refusal_of_read as refusals
-use Rattle.reader_entries.proofs.levels.refusal_of_read.Symbol as rows-def
+use Rattle.reader_entries.proofs.levels.refusal_of_read.Symbol as numbers-def
 use Rattle.reader_entries.proofs.levels.refusal_of_read.Symbol.{name as #refusals}
-use Rattle.reader_entries.proofs.levels.refusal_of_read.Met as rows-met
+use Rattle.reader_entries.proofs.levels.refusal_of_read.Met as numbers-met
 use Rattle.reader_entries.proofs.levels.words_of_read as words
 use Rattle.reader_entries.proofs.levels.words_of_read.Symbol as words-def
 use Rattle.reader_entries.proofs.levels.words_of_read.Symbol.{name as #words}
@@ -96,15 +96,15 @@ stayed = (stay-dropped (plain (λ _. sets.the-row)) kept, (stay-dropped (plain V
 abbrev Arg : Type 0
 Arg = ParameterSet × (OpeningReader × (ℕ × Unit {0}))
 
-abbrev Arg-row : Type 0
-Arg-row = ParameterSet × (RefT (List ℕ) × (ℕ × Unit {0}))
+abbrev Arg-number : Type 0
+Arg-number = ParameterSet × (RefT (List ℕ) × (ℕ × Unit {0}))
 
 abbrev Arg-words : Type 0
 Arg-words = ParameterSet × (RefT (List ℕ) × (ℕ × (ℕ × Unit {0})))
 
 module _ {M : Type 1} (𝓤 : URA M) (H : Heap 𝓤) (A : Atoms 𝓤) (mem : Memory → SProp 𝓤) (run : Routine → Fun 𝓤) where
-  abbrev Row : Contract 𝓤
-  Row = tripleOf 𝓤 H A refusals.signature (refusals.spec 𝓤 H A mem run)
+  abbrev Number : Contract 𝓤
+  Number = tripleOf 𝓤 H A refusals.signature (refusals.spec 𝓤 H A mem run)
 
   abbrev Words : Contract 𝓤
   Words = tripleOf 𝓤 H A words.signature (words.spec 𝓤 H A mem run)
@@ -157,26 +157,26 @@ module _ {M : Type 1} (𝓤 : URA M) (H : Heap 𝓤) (A : Atoms 𝓤) (W : Given
 
   -- ---- what each call is passed and says
 
-  abbrev RowIs : ℕ → Type 0
-  RowIs n = n ≡ firstRefusal (readRefusals p s (now x) j)
+  abbrev NumberIs : ℕ → Type 0
+  NumberIs n = n ≡ firstRefusal (readRefusals p s (now x) j)
 
   abbrev WordsAre : RefT (List ℕ) → Type 0
   WordsAre r = now r ≡ readWords p s (now x) j
 
-  abbrev row-args : Arg-row
-  row-args = (s, (x, (j, tt)))
+  abbrev number-args : Arg-number
+  number-args = (s, (x, (j, tt)))
 
   abbrev words-args : ℕ → Arg-words
   words-args n = (s, (x, (j, (n, tt))))
 
-  abbrev to-row : Row 𝓤 H A mem run .Ghost
-  to-row = (((κ, tt), (q, tt), tt, row-args, (sv ∷ [], (xv ∷ [], (jv ∷ [], tt)))), tt)
+  abbrev to-number : Number 𝓤 H A mem run .Ghost
+  to-number = (((κ, tt), (q, tt), tt, number-args, (sv ∷ [], (xv ∷ [], (jv ∷ [], tt)))), tt)
 
   abbrev to-words : ℕ → Words 𝓤 H A mem run .Ghost
   to-words n = (((κ, tt), (q, tt), tt, words-args n, (sv ∷ [], (xv ∷ [], (jv ∷ [], (vint w8 n ∷ [], tt))))), tt)
 
-  goes-row : ent 𝓤 (⋆ 𝓤 H A ((‵ (flft κ q) ⊛ ‵ ftrue) ∷ ‵ Siblings ∷ [])) (Row 𝓤 H A mem run .pre to-row)
-  goes-row =
+  goes-number : ent 𝓤 (⋆ 𝓤 H A ((‵ (flft κ q) ⊛ ‵ ftrue) ∷ ‵ Siblings ∷ [])) (Number 𝓤 H A mem run .pre to-number)
+  goes-number =
       qed W ((‵ (flft κ q) ⊛ ‵ ftrue) ∷ ‵ Siblings ∷ []) ∵ nothing ! $ owned ! u64 (Is u64) (uint-makes 𝓤 H A W w64) j _ (refl, j-fits) $ fjoin ! $ move ! (2 ∷ 0 ∷ []) $ fjoin ! $
       owned ! sets.the-row (Is sets.the-row) (LL.makes sets.the-type sets′.the-plain 𝓤 H A) s _ is-s $ fjoin ! $ move ! (1 ∷ 0 ∷ []) $ join ! $ frame ! $ done !
 
@@ -186,23 +186,23 @@ module _ {M : Type 1} (𝓤 : URA M) (H : Heap 𝓤) (A : Atoms 𝓤) (W : Given
       nothing ! $ owned ! u8 (Is u8) (uint-makes 𝓤 H A W w8) n _ (refl, n-fits) $ fjoin ! $ owned ! u64 (Is u64) (uint-makes 𝓤 H A W w64) j _ (refl, j-fits) $ fjoin ! $
       move ! (2 ∷ 0 ∷ []) $ fjoin ! $ owned ! sets.the-row (Is sets.the-row) (LL.makes sets.the-type sets′.the-plain 𝓤 H A) s _ is-s $ fjoin ! $ move ! (1 ∷ 0 ∷ []) $ join ! $ frame ! $ done !
 
-  row-said : (n : ℕ) → ent 𝓤 (ensured 𝓤 H A refusals.ended (refusals.clauses 𝓤 H A mem run) (κ, tt) row-args tt n) (fact 𝓤 (RowIs n))
-  row-said n = exE 𝓤 _ (λ ends. snd∗ 𝓤 (sem 𝓤 H A (lasts refusals.ended (κ, tt) row-args ends)) (fact 𝓤 (RowIs n)))
+  number-said : (n : ℕ) → ent 𝓤 (ensured 𝓤 H A refusals.ended (refusals.clauses 𝓤 H A mem run) (κ, tt) number-args tt n) (fact 𝓤 (NumberIs n))
+  number-said n = exE 𝓤 _ (λ ends. snd∗ 𝓤 (sem 𝓤 H A (lasts refusals.ended (κ, tt) number-args ends)) (fact 𝓤 (NumberIs n)))
 
-  words-said : (n : ℕ) (r : RefT (List ℕ)) → ent 𝓤 (ensured 𝓤 H A words.ended (words.clauses 𝓤 H A mem run) (κ, tt) (words-args n) tt r) (fact 𝓤 (RowIs n → WordsAre r))
-  words-said n r = exE 𝓤 _ (λ ends. snd∗ 𝓤 (sem 𝓤 H A (lasts words.ended (κ, tt) (words-args n) ends)) (fact 𝓤 (RowIs n → WordsAre r)))
+  words-said : (n : ℕ) (r : RefT (List ℕ)) → ent 𝓤 (ensured 𝓤 H A words.ended (words.clauses 𝓤 H A mem run) (κ, tt) (words-args n) tt r) (fact 𝓤 (NumberIs n → WordsAre r))
+  words-said n r = exE 𝓤 _ (λ ends. snd∗ 𝓤 (sem 𝓤 H A (lasts words.ended (κ, tt) (words-args n) ends)) (fact 𝓤 (NumberIs n → WordsAre r)))
 
   abbrev made : RefT (List ℕ) → ℕ → Part
   made r n = record { words = r; number = n }
 
-  exits : (r : RefT (List ℕ)) (n : ℕ) → n < 256 → RowIs n → WordsAre r → ent 𝓤 (⋆ 𝓤 H A ((‵ (flft κ q) ⊛ ‵ ftrue) ∷ ‵ (ShrSlice (named 0) κ u64 .own r (slice-vals r)) ∷ [])) (Post (parts′.lowered (made r n)))
+  exits : (r : RefT (List ℕ)) (n : ℕ) → n < 256 → NumberIs n → WordsAre r → ent 𝓤 (⋆ 𝓤 H A ((‵ (flft κ q) ⊛ ‵ ftrue) ∷ ‵ (ShrSlice (named 0) κ u64 .own r (slice-vals r)) ∷ [])) (Post (parts′.lowered (made r n)))
   exits r n n-fits e f =
       qed W ((‵ (flft κ q) ⊛ ‵ ftrue) ∷ ‵ (ShrSlice (named 0) κ u64 .own r (slice-vals r)) ∷ []) ∵
       suffices ! _ (ends-at 𝓤 H A all.ended stayed (all.clauses 𝓤 H A mem run) W bound (parts′.lowered (made r n)) (made r n) (tt, (tt, (tt, tt))) (tt, (tt, (tt, tt)))) $ says ! (replies s (now x) j n (now r) e f, f) $
       frame ! $ nothing ! $ nothing ! $ fjoin ! $ nothing ! $ fjoin ! $ nothing ! $ fjoin ! $ frame ! $
       nothing ! $ owned ! u8 (Is u8) (uint-makes 𝓤 H A W w8) n _ (refl, n-fits) $ fjoin ! $ move ! (1 ∷ 0 ∷ []) $ fjoin ! $ by ! (own-shut 𝓤 H A W (parts.the-type α) (parts′.the-laws α) (r, (n, tt)))
 
-  module _ (C : Calls 𝓤 H) (Λ : Loops 𝓤 H) (fm : FmC 𝓤 H (W .laws) C) (known-row : Triple 𝓤 (C #refusals) (Row 𝓤 H A mem run)) (known-words : Triple 𝓤 (C #words) (Words 𝓤 H A mem run)) where
+  module _ (C : Calls 𝓤 H) (Λ : Loops 𝓤 H) (fm : FmC 𝓤 H (W .laws) C) (known-number : Triple 𝓤 (C #refusals) (Number 𝓤 H A mem run)) (known-words : Triple 𝓤 (C #words) (Words 𝓤 H A mem run)) where
     walk : Holds (hasTy sets′.mir sv) × WT sv → Holds (hasTy (views′.mir (named 0)) dv) × WT dv → ent 𝓤 (onEntry 𝓤 H A all.signature (κ, tt) (q, tt) args vals) (WpFn 𝓤 H C Λ fn (sv ∷ dv ∷ jv ∷ []) Post)
     walk typed-s typed-d =
         qed W ((‵ (flft κ q) ⊛ ‵ ftrue) ∷ ‵ (owns (sets.the-row ∷ View (κ, tt) ∷ u64 ∷ []) args vals) ∷ []) ∵ enter ! C Λ fn (sv ∷ dv ∷ jv ∷ []) _ $
@@ -215,10 +215,10 @@ module _ {M : Type 1} (𝓤 : URA M) (H : Heap 𝓤) (A : Atoms 𝓤) (W : Given
         use1 W (‵ (ownAt (D .parts) L 0 x) ⊛ ‵ (rest (D .parts) L 0 fields)) (own-out 𝓤 H A W (D .parts) L 0 fields) $ split ! $ move ! (1 ∷ []) $ drop ! $
         use1 W (‵ Siblings ⊛ ‵ Siblings) (shr-slice-copy 𝓤 H A W (named 0) κ u64 .twice x (xv ∷ [])) $ split ! $
         -- [the slice; the slice; local 7; …; the token]
-        move ! (18 ∷ 0 ∷ []) $ use2 W (raw (Row 𝓤 H A mem run .pre to-row)) goes-row $
-        calls-at ! fm (Row 𝓤 H A mem run) known-row to-row (and-then ! (load ! (from ! (stop !)) (look ! 14 refl)) (and-then ! (load ! (from ! (stop !)) (look ! 4 refl)) (and-then ! (load ! (from ! (stop !)) (look ! 10 refl)) (no-more !)))) (λ w.
-        use1 W (later (some (λ (n : ℕ). ((‵ (flft κ q) ⊛ ‵ ftrue) ⊛ ‵ (u8 .own n (w ∷ []))) ⊛ raw (ensured 𝓤 H A refusals.ended (refusals.clauses 𝓤 H A mem run) (κ, tt) row-args tt n)))) (id⊢ 𝓤 _) $ await ! tt $ pick ! (λ n.
-        split ! $ move ! (1 ∷ []) $ use1 W (raw (fact 𝓤 (RowIs n))) (row-said n) $ heard ! (RowIs n) (λ e. split ! $ move ! (1 ∷ []) $
+        move ! (18 ∷ 0 ∷ []) $ use2 W (raw (Number 𝓤 H A mem run .pre to-number)) goes-number $
+        calls-at ! fm (Number 𝓤 H A mem run) known-number to-number (and-then ! (load ! (from ! (stop !)) (look ! 14 refl)) (and-then ! (load ! (from ! (stop !)) (look ! 4 refl)) (and-then ! (load ! (from ! (stop !)) (look ! 10 refl)) (no-more !)))) (λ w.
+        use1 W (later (some (λ (n : ℕ). ((‵ (flft κ q) ⊛ ‵ ftrue) ⊛ ‵ (u8 .own n (w ∷ []))) ⊛ raw (ensured 𝓤 H A refusals.ended (refusals.clauses 𝓤 H A mem run) (κ, tt) number-args tt n)))) (id⊢ 𝓤 _) $ await ! tt $ pick ! (λ n.
+        split ! $ move ! (1 ∷ []) $ use1 W (raw (fact 𝓤 (NumberIs n))) (number-said n) $ heard ! (NumberIs n) (λ e. split ! $ move ! (1 ∷ []) $
         -- [the number; the token; the slice; local 7; …]
         peeks ! u8 (Is u8) (shows 𝓤 H A u8) n (w ∷ []) (λ is-n.
         land ! (from ! (stop !)) (init ! 9 refl (uint-lawful 𝓤 H A W w8 .typed n _ is-n .0)) $ rewrite ! 9 (λ (u : Val). ‵ (fat fullShare (tyInt w8) l₄ 0 u)) (ap only (is-n .0)) refl $
@@ -226,7 +226,7 @@ module _ {M : Type 1} (𝓤 : URA M) (H : Heap 𝓤) (A : Atoms 𝓤) (W : Given
         move ! (1 ∷ 2 ∷ []) $ use2 W (raw (Words 𝓤 H A mem run .pre (to-words n))) (goes-words n (is-n .1)) $
         calls-at ! fm (Words 𝓤 H A mem run) known-words (to-words n) (and-then ! (load ! (from ! (stop !)) (look ! 14 refl)) (and-then ! (load ! (from ! (stop !)) (look ! 2 refl)) (and-then ! (load ! (from ! (stop !)) (look ! 10 refl)) (and-then ! (load ! (from ! (stop !)) (look ! 8 refl)) (no-more !))))) (λ w′.
         use1 W (later (some (λ (r : RefT (List ℕ)). ((‵ (flft κ q) ⊛ ‵ ftrue) ⊛ ‵ (ShrSlice (named 0) κ u64 .own r (w′ ∷ []))) ⊛ raw (ensured 𝓤 H A words.ended (words.clauses 𝓤 H A mem run) (κ, tt) (words-args n) tt r)))) (id⊢ 𝓤 _) $ await ! tt $ pick ! (λ r.
-        split ! $ move ! (1 ∷ []) $ use1 W (raw (fact 𝓤 (RowIs n → WordsAre r))) (words-said n r) $ heard ! (RowIs n → WordsAre r) (λ f. split ! $ move ! (1 ∷ []) $
+        split ! $ move ! (1 ∷ []) $ use1 W (raw (fact 𝓤 (NumberIs n → WordsAre r))) (words-said n r) $ heard ! (NumberIs n → WordsAre r) (λ f. split ! $ move ! (1 ∷ []) $
         -- [the words; the token; the number; local 7; …]
         peeks ! (ShrSlice (named 0) κ u64) (Is (ShrSlice (named 0) κ u64)) (shows 𝓤 H A (ShrSlice (named 0) κ u64)) r (w′ ∷ []) (λ is-r.
         land ! (from ! (stop !)) (init ! 7 refl (shr-slice-lawful 𝓤 H A W erased κ u64 .typed r _ is-r .0)) $ rewrite ! 7 (λ (u : Val). ‵ (fat fullShare lentTy l₅ 0 u)) (ap only (shr-slice-tells (named 0) κ u64 r _ is-r)) refl $
@@ -237,25 +237,25 @@ module _ {M : Type 1} (𝓤 : URA M) (H : Heap 𝓤) (A : Atoms 𝓤) (W : Given
         keep ! (1 ∷ 0 ∷ []) $ by ! (exits r n (is-n .1) e (f e)))))))))))))))))))
 
 module _ {M : Type 1} (𝓤 : URA M) (H : Heap 𝓤) (A : Atoms 𝓤) (W : Given 𝓤 H A) (mem : Memory → SProp 𝓤) (run : Routine → Fun 𝓤) where
-  all-walks : (C : Calls 𝓤 H) (Λ : Loops 𝓤 H) → FmC 𝓤 H (W .laws) C → Triple 𝓤 (C #refusals) (Row 𝓤 H A mem run) → Triple 𝓤 (C #words) (Words 𝓤 H A mem run)
+  all-walks : (C : Calls 𝓤 H) (Λ : Loops 𝓤 H) → FmC 𝓤 H (W .laws) C → Triple 𝓤 (C #refusals) (Number 𝓤 H A mem run) → Triple 𝓤 (C #words) (Words 𝓤 H A mem run)
       → Walks 𝓤 H A all.ended stayed (WpFn 𝓤 H C Λ fn) (all.clauses 𝓤 H A mem run)
-  all-walks C Λ fm known-row known-words = walked 𝓤 H A all.ended stayed (all.clauses 𝓤 H A mem run) (WpFn 𝓤 H C Λ fn)
+  all-walks C Λ fm known-number known-words = walked 𝓤 H A all.ended stayed (all.clauses 𝓤 H A mem run) (WpFn 𝓤 H C Λ fn)
       (λ κs. (LL.vals sets.the-type sets′.the-laws, (LL.vals (views.the-type (namedLft 1 0 tt κs)) (views′.the-laws (namedLft 1 0 tt κs)), (uint-vals w64, tt))))
       (λ κs. (LL.tells sets.the-type sets′.the-laws, (LL.tells (views.the-type (namedLft 1 0 tt κs)) (views′.the-laws (namedLft 1 0 tt κs)), (uint-tells w64, tt))))
       (λ κs qs bounds a g are. via 𝓤 _ (fst∗ 𝓤 _ (emp 𝓤))
-      (walk 𝓤 H A W mem run (κs .0) (qs .0) (a .0) (a .1 .0) (a .1 .1 .0) (are .1 .1 .0 .1) (are .0) C Λ fm known-row known-words
+      (walk 𝓤 H A W mem run (κs .0) (qs .0) (a .0) (a .1 .0) (a .1 .1 .0) (are .1 .1 .0 .1) (are .0) C Λ fm known-number known-words
       (LL.lawful sets.the-type sets′.the-laws 𝓤 H A W .typed (a .0) _ (are .0) .0)
       (LL.lawful (views.the-type (namedLft 1 0 tt κs)) (views′.the-laws (namedLft 1 0 tt κs)) 𝓤 H A W .typed (a .1 .0) _ (are .1 .0) .0)))
 
 all-meets : {M : Type 1} (𝓤 : URA M) (H : Heap 𝓤) (A : Atoms 𝓤) → Given 𝓤 H A → (mem : Memory → SProp 𝓤) (run : Routine → Fun 𝓤) (𝓣 : Tables 𝓤 H)
-    → Triple 𝓤 (𝓣 .C #refusals) (Row 𝓤 H A mem run) → Triple 𝓤 (𝓣 .C #words) (Words 𝓤 H A mem run)
+    → Triple 𝓤 (𝓣 .C #refusals) (Number 𝓤 H A mem run) → Triple 𝓤 (𝓣 .C #words) (Words 𝓤 H A mem run)
     → Meets 𝓤 H A all.signature (WpFn 𝓤 H (𝓣 .C) (𝓣 .Λ) code.function) (all.spec 𝓤 H A mem run)
-all-meets 𝓤 H A W mem run 𝓣 known-row known-words =
+all-meets 𝓤 H A W mem run 𝓣 known-number known-words =
     subst (λ (f : Fn). Meets 𝓤 H A all.signature (WpFn 𝓤 H (𝓣 .C) (𝓣 .Λ) f) (all.spec 𝓤 H A mem run)) fn-is
     (walk-meets 𝓤 H A all.ended stayed W
     (goes-dropped 𝓤 H A W 1 (plain (λ _. sets.the-row)) kept (λ κs x f. refl), (goes-dropped 𝓤 H A W 1 (plain View) kept (λ κs x f. refl), (goes-dropped 𝓤 H A W 1 (plain (λ _. u64)) kept (λ κs x f. refl), tt)))
     (all.clauses 𝓤 H A mem run) (WpFn 𝓤 H (𝓣 .C) (𝓣 .Λ) fn) (WpFn-mono 𝓤 H (W .laws) 𝓣 fn)
-    (all-walks 𝓤 H A W mem run (𝓣 .C) (𝓣 .Λ) (fmOf 𝓤 H (W .laws) 𝓣) known-row known-words))
+    (all-walks 𝓤 H A W mem run (𝓣 .C) (𝓣 .Λ) (fmOf 𝓤 H (W .laws) 𝓣) known-number known-words))
 
 pub part-at-spec : {M : Type 1} → stated.statement M
 unfolding code.routine tablesOf
@@ -263,5 +263,5 @@ part-at-spec 𝓤 H 𝓜 𝓖 𝓡 =
     entered 𝓤 H (tripleOf 𝓤 H (𝓖 .A) all.signature (all.spec 𝓤 H (𝓖 .A) (𝓜 .mem) (𝓡 .run)))
     (tables 𝓤 H 𝓜 𝓡 code.env .C) (tables 𝓤 H 𝓜 𝓡 code.env .Λ) #part-at code.function (code.unfolded 𝓤 H 𝓜 𝓡)
     (all-meets 𝓤 H (𝓖 .A) (givenOf 𝓤 H 𝓜 𝓖) (𝓜 .mem) (𝓡 .run) (tablesOf 𝓤 H 𝓜 (tables 𝓤 H 𝓜 𝓡 code.env))
-    (cited 𝓤 H (Row 𝓤 H (𝓖 .A) (𝓜 .mem) (𝓡 .run)) 𝓜 𝓡 code.env #refusals rows-def.routine code.calls-reader-entries·levels·refusal-of-read (rows-met.met 𝓤 H 𝓜 𝓖 𝓡))
+    (cited 𝓤 H (Number 𝓤 H (𝓖 .A) (𝓜 .mem) (𝓡 .run)) 𝓜 𝓡 code.env #refusals numbers-def.routine code.calls-reader-entries·levels·refusal-of-read (numbers-met.met 𝓤 H 𝓜 𝓖 𝓡))
     (cited 𝓤 H (Words 𝓤 H (𝓖 .A) (𝓜 .mem) (𝓡 .run)) 𝓜 𝓡 code.env #words words-def.routine code.calls-reader-entries·levels·words-of-read (words-met.met 𝓤 H 𝓜 𝓖 𝓡)))
