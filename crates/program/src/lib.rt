@@ -1,7 +1,7 @@
 // The root program (Rules 7.5, 7.6), from the bytes that it reads to those that it writes.
 ghost use mathlib.Core.Path.{_≡_};
 ghost use Prim.Native.Nat.{_+_, _/_, _≤_, _<_, min};
-ghost use lib.ListN.{length, take, drop, getD, set};
+ghost use lib.ListN.{length, take, drop, getD};
 ghost use Rattle.modular.specs.Goldilocks.{p};
 ghost use Rattle.parameters.specs.Refusals.{constantCount};
 ghost use Rattle.merkle.specs.Lists.{put};
@@ -85,15 +85,6 @@ fn constant_count(width: u64, full_rounds: u64, partial_rounds: u64, most: u64) 
     width * full_rounds + partial_rounds
 }
 
-fn put_byte(byte: u8, at: usize, output: &mut [u8]) -> usize
-    requires { ⌜ at < length (now output) ⌝ }
-    ensures { λ r. ⌜ r ≡ at + 1 ⌝ }
-    ensures { λ r. ⌜ now (output .exit) ≡ set (now (output .entry)) at byte ⌝ }
-{
-    output[at] = byte;
-    at + 1
-}
-
 fn put_bytes(bytes: &[u8], at: usize, output: &mut [u8]) -> usize
     requires { ⌜ at + length (now bytes) ≤ length (now output) ⌝ }
     ensures { λ r. ⌜ r ≡ at + length (now (bytes .entry)) ⌝ }
@@ -114,10 +105,12 @@ fn put_decimal(n: u64, at: usize, output: &mut [u8]) -> usize
     ensures { λ r. ⌜ now (output .exit) ≡ put (now (output .entry)) at (decimal n) ⌝ }
 {
     if n < 10 {
-        return put_byte(48 + n as u8, at, output);
+        output[at] = 48 + n as u8;
+        return at + 1;
     }
     let last = put_decimal(n / 10, at, output);
-    put_byte(48 + (n % 10) as u8, last, output)
+    output[last] = 48 + (n % 10) as u8;
+    last + 1
 }
 
 // The words in decimal, each on a line of its own.
@@ -129,8 +122,9 @@ fn put_lines(words: &[u64], output: &mut [u8]) -> usize
     let mut at = 0;
     let mut i = 0;
     while i < words.len() {
-        let end = put_decimal(words[i], at, output);
-        at = put_byte(b'\n', end, output);
+        let last = put_decimal(words[i], at, output);
+        output[last] = b'\n';
+        at = last + 1;
         i += 1;
     }
     at
@@ -143,7 +137,8 @@ fn put_refused(number: u8, output: &mut [u8]) -> usize
 {
     let at = put_bytes(b"refused ", 0, output);
     let end = put_decimal(number as u64, at, output);
-    put_byte(b'\n', end, output)
+    output[end] = b'\n';
+    end + 1
 }
 
 // What follows D.

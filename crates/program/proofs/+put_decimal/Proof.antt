@@ -1,15 +1,15 @@
-use mathlib.Core.Path.{ap, _∙_}
-use native.Mathlib.Omega.{arith}
-use lib.ListN.{length}
-use Rattle.program.specs.Program.{decimal}
-use Rattle.program.proofs.Texts.{decimal-digit, decimal-more, decimal-longer, put-byte, put-more}
+use mathlib.Core.Path.{refl, ap}
 use Prim.Native.Nat.{ℕ, _+_, _/_, _%_, _<_}
+use native.Mathlib.Omega.{arith}
+use lib.ListN.{length, length-set}
+use borrow.Author.Needs.{needs}
 use borrow.Fn.Kinds.{In}
 use borrow.Fn.PlainCycle.{Measures, is, falls, and}
+use Rattle.program.specs.Program.{decimal}
+use Rattle.program.proofs.Texts.{decimal-digit, decimal-more, decimal-longer, put-byte, put-more}
 use Rattle.program.proofs.put_decimal.Reads as put-decimal
 use Rattle.program.proofs.put_decimal.Kinds as put-decimal-kinds
 use Rattle.program.proofs.+put_decimal.Lts-put_decimal as put-decimal-lts
-use Rattle.program.proofs.put_byte.Reads as put-byte-reads
 use Rattle.program.proofs.+put_decimal.{statement}
 use Rattle.program.proofs.+put_decimal.Tie.{close}
 
@@ -26,8 +26,6 @@ put-decimal-below t =
 
 pub +put-decimal-spec : {M : Type 1} → statement M
 +put-decimal-spec = close μ-put-decimal λ t. put-decimal-lts.spec (
-  put-byte-reads.Asked,
-  put-byte-reads.Learnt,
   put-decimal-below t,
   put-decimal.Post,
 )
@@ -36,32 +34,34 @@ pub +put-decimal-spec : {M : Type 1} → statement M
     -- one digit
     (λ c. omega arith)
     (λ c. omega arith)
-    (λ c κs.
-    let s = c .before .before .before in
-    omega (arith, s .pre .1, ap length (decimal-digit (s .args .n) (omega arith))))
-    (λ c. c .before .before .put-byte .kept .1 .1 .0)
     (λ c.
-    let s = c .before .before .before .before .before .before in
-    let b = c .before .before .put-byte .ensures in
+    let s = c .before .before in
+    omega (arith, s .pre .1, ap length (decimal-digit (s .args .n) (omega arith))))
+    (λ c. omega arith)
+    (search needs)
+    (λ c.
+    let s = c .before .before in
     let digit = decimal-digit (s .args .n) (omega arith) in
-    rw digit (b .0, b .1 ∙ put-byte _ (s .args .at) _ (omega (arith, s .pre .1, ap length digit))))
+    rw digit (refl, put-byte _ _ _ (omega (arith, s .pre .1, ap length digit))))
     -- the digits before the last, and the last
     (λ c κs.
     let s = c .before .before .before in
     (omega (arith, s .pre .0), omega (arith, s .pre .1, decimal-longer (s .args .n) (omega arith))))
     (λ c. omega arith)
     (λ c. omega arith)
-    (λ c κs.
-    let s = c .before .before .before .before .before .before .before in
-    let d = c .before .before .before .put-decimal in
-    omega (arith, s .pre .1, d .ensures .0, d .kept .1 .1 .0, decimal-longer (s .args .n) (omega arith)))
-    (λ c. c .before .before .put-byte2 .kept .1 .1 .0 ∙ c .before .before .before .before .before .before .put-decimal .kept .1 .1 .0)
     (λ c.
-    let s = c .before .before .before .before .before .before .before .before .before .before in
-    let d = c .before .before .before .before .before .before .put-decimal in
-    let b = c .before .before .put-byte2 in
+    let s = c .before .before .before .before .before .before in
+    let d = c .before .before .put-decimal in
+    omega (arith, s .pre .1, d .ensures .0, d .kept .1 .1 .0, decimal-longer (s .args .n) (omega arith)))
+    (λ c.
+    let s = c .before .before .before .before .before .before in
+    omega (arith, s .pre .1, c .before .before .put-decimal .ensures .0, decimal-longer (s .args .n) (omega arith)))
+    (λ c. simp length-set (c .before .before .put-decimal .kept .1 .1 .0))
+    (λ c.
+    let s = c .before .before .before .before .before .before in
+    let d = c .before .before .put-decimal .ensures in
     let n = s .args .n in
     let more = decimal-longer n (omega arith) in (
-      omega (arith, b .ensures .0, d .ensures .0, more),
-      rw (decimal-more n (omega arith)) (put-more (s .args .output .now) (decimal (n / 10)) (s .args .at) (48 + n % 10) (omega (arith, s .pre .1, more)) (d .ensures .0) (d .ensures .1) (b .ensures .1)),
+      omega (arith, d .0, more),
+      rw (decimal-more n (omega arith)) (put-more (s .args .output .now) (decimal (n / 10)) (s .args .at) (48 + n % 10) (omega (arith, s .pre .1, more)) (d .0) (d .1) refl),
     ))

@@ -1,8 +1,8 @@
 use mathlib.Core.Path.{_≡_, refl, sym, ap, _∙_}
 use mathlib.Core.List.{List}
-use Prim.Native.Nat.{ℕ, _*_, _-_, _≤_}
+use Prim.Native.Nat.{ℕ, _+_, _*_, _-_, _≤_}
 use native.Mathlib.Omega.{arith}
-use lib.ListN.{length, take, getD}
+use lib.ListN.{length, take, getD, length-set}
 use lib.Seq.{take-length}
 use Rattle.program.specs.Program.{decimal, newline, lines, written}
 use Rattle.program.proofs.Texts.{decimal-word, line, line-length, lines-more, lines-longer, put-more, written-more}
@@ -26,30 +26,39 @@ put-decimal-requires c κs =
     let i = l .loop .i in
     omega (arith, s .pre, decimal-word (getD (s .args .words .now) i 0) (omega (arith, c .before .shared-slice-known2 .given i)))
 
-put-byte-requires : tie.Need-put-byte-requires Inv-loop μ-loop
-put-byte-requires c κs =
-    let l = c .before .before .before .before .before .before .before in
-    let s = l .before .before .before in
-    let d = c .before .before .before .put-decimal in
+-- the place of the newline
+end-fits : (c : tie.After-slice-known2 Inv-loop μ-loop) → c .before .before .put-decimal .result ≤ 21 * c .before .before .before .before .before .before .loop .i + 20
+end-fits c =
+    let l = c .before .before .before .before .before .before in
     let i = l .loop .i in
-    omega (arith, s .pre, d .ensures .0, d .kept .1 .1 .0, decimal-word (getD (s .args .words .now) i 0) (omega (arith, c .before .before .before .before .before .shared-slice-known2 .given i)))
+    let w = getD (l .before .before .before .args .words .now) i 0 in
+    omega (arith, c .before .before .put-decimal .ensures .0, decimal-word w (omega (arith, c .before .before .before .before .shared-slice-known2 .given i)))
+
+kept : (c : tie.After-slice-known2 Inv-loop μ-loop) → length (c .before .before .put-decimal .last .1 .1 .0) ≡ 128
+kept c =
+    let l = c .before .before .before .before .before .before in
+    c .before .before .put-decimal .kept .1 .1 .0 ∙ l .loop .inv .1 ∙ l .before .before .before .pre .1
+
+slice-write-output : tie.Need-slice-write-output Inv-loop μ-loop
+slice-write-output c = omega (arith, end-fits c, kept c, c .before .before .before .before .before .before .before .before .before .pre .0)
+
+add-at : tie.Need-add-at Inv-loop μ-loop
+add-at c = omega (arith, end-fits c, c .before .before .before .before .before .before .before .before .before .pre .0)
 
 loop-again : tie.Need-loop-again Inv-loop μ-loop
 loop-again c =
-    let l = c .before .before .before .before .before .before .before .before .before .before in
+    let l = c .before .before .before .before .before .before in
     let s = l .before .before .before in
-    let d = c .before .before .before .before .before .before .put-decimal in
-    let n = c .before .before .put-byte in
+    let d = c .before .before .put-decimal .ensures in
     let i = l .loop .i in
     let words = s .args .words .now in
-    let w = getD words i 0 in
-    let short = decimal-word w (omega (arith, c .before .before .before .before .before .before .before .before .shared-slice-known2 .given i)) in (
+    let w = getD words i 0 in (
       omega arith,
-      n .kept .1 .1 .0 ∙ d .kept .1 .1 .0 ∙ l .loop .inv .1,
-      omega (arith, d .ensures .0, n .ensures .0, short),
-      omega (arith, d .ensures .0, n .ensures .0, lines-longer words i (omega arith), line-length w),
+      simp length-set (omega (arith, kept c, s .pre .1)),
+      omega (arith, end-fits c),
+      omega (arith, d .0, lines-longer words i (omega arith), line-length w),
       written-more (s .args .output .now) (lines (take i words)) (line w) (l .loop .inv .3) (l .loop .inv .4)
-          (put-more (l .loop .output) (decimal w) (l .loop .at) newline (omega (arith, s .pre, short)) (d .ensures .0) (d .ensures .1) (n .ensures .1))
+          (put-more (l .loop .output) (decimal w) (l .loop .at) newline (omega (arith, end-fits c, s .pre, d .0)) (d .0) (d .1) refl)
           ∙ ap (λ (text : List ℕ). written text (s .args .output .now)) (sym (lines-more words i (omega arith))),
     )
 
@@ -65,5 +74,5 @@ pub put-lines-spec : {M : Type 1} → statement M
 put-lines-spec =
     tie.close
     (tie.spec
-    Inv-loop μ-loop loop-holds (λ c. omega arith) (λ c. omega arith) put-decimal-requires put-byte-requires (λ c. omega arith)
+    Inv-loop μ-loop loop-holds (λ c. omega arith) (λ c. omega arith) put-decimal-requires slice-write-output add-at (λ c. omega arith)
     (λ c. omega arith) loop-again (λ c. omega arith) returns)
