@@ -1,12 +1,12 @@
 // What the benchmark calls beside the library's own C functions: a permutation and a compression without validation. They require what
 // a validated set gives.
 ghost use mathlib.Core.Path.{_≡_};
-ghost use Prim.Native.Nat.{_+_, _*_, _≤_};
-ghost use lib.ListN.{length, take};
+ghost use Prim.Native.Nat.{_≤_};
+ghost use lib.ListN.{length};
 ghost use Rattle.modular.specs.Goldilocks.{p};
 ghost use Rattle.poseidon2.specs.Rounds.{permute};
 ghost use Rattle.poseidon2.specs.Compression.{compress};
-ghost use Rattle.poseidon2.specs.Statements.{Width, Words};
+ghost use Rattle.measures.specs.Measured.{Validated};
 
 // One permutation, without validation.
 #[no_mangle]
@@ -18,7 +18,7 @@ pub extern "C" fn measured_permute(
     constants: &[u64; 208],
     state: &mut [u64],
 )
-    requires { ⌜ (Width width) × (1 ≤ half) × (half ≤ 6) × («partial_rounds» ≤ 64) × (Words p (take (width * (2 * half) + «partial_rounds») (now constants))) × (length (now state) ≡ width) ⌝ }
+    requires { ⌜ Validated width half «partial_rounds» (now constants) × (length (now state) ≡ width) ⌝ }
     ensures { λ r. ⌜ now (state .exit) ≡ permute p half «partial_rounds» (now (diagonal .entry)) (now (constants .entry)) (now (state .entry)) ⌝ }
 {
     permutation::permute(width, half, partial_rounds, diagonal, constants, state);
@@ -36,7 +36,7 @@ pub extern "C" fn measured_compress(
     row: &[u64],
     node: &mut [u64],
 )
-    requires { ⌜ (Width width) × («node_size» ≤ width) × (1 ≤ half) × (half ≤ 6) × («partial_rounds» ≤ 64) × (Words p (take (width * (2 * half) + «partial_rounds») (now constants))) × (length (now row) ≡ width) × (length (now node) ≡ «node_size») ⌝ }
+    requires { ⌜ Validated width half «partial_rounds» (now constants) × («node_size» ≤ width) × (length (now row) ≡ width) × (length (now node) ≡ «node_size») ⌝ }
     ensures { λ r. ⌜ now (node .exit) ≡ compress p «node_size» half «partial_rounds» (now (diagonal .entry)) (now (constants .entry)) (now (row .entry)) ⌝ }
 {
     permutation::compress(

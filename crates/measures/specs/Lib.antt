@@ -1,0 +1,2 @@
+-- What the measured functions require.
+pub mod Measured
