@@ -221,18 +221,13 @@ fn bad_lengths(
 }
 
 // The first of refusals 1 to 6 that applies, or 0.
-fn refusal_of_shape(
-    width: u64,
-    node_size: u64,
-    height: u64,
-    full_rounds: u64,
-    partial_rounds: u64,
-    diagonal: &[u64],
-    constants: &[u64],
-) -> u8
-    ensures { λ r. ⌜ r ≡ firstRefusal (shapeRefusals width «node_size» height «full_rounds» «partial_rounds» (now (diagonal .entry)) (now (constants .entry))) ⌝ }
+fn refusal_of_shape(numbers: [u64; 5], diagonal: &[u64], constants: &[u64]) -> u8
+    ensures { λ r. ⌜ r ≡ firstRefusal (shapeRefusals (getD numbers 0 0) (getD numbers 1 0) (getD numbers 2 0) (getD numbers 3 0) (getD numbers 4 0) (now (diagonal .entry)) (now (constants .entry))) ⌝ }
 {
-    let number = refusal_of_numbers(width, node_size, height, full_rounds, partial_rounds);
+    let width = numbers[0];
+    let full_rounds = numbers[3];
+    let partial_rounds = numbers[4];
+    let number = refusal_of_numbers(width, numbers[1], numbers[2], full_rounds, partial_rounds);
     if number != 0 {
         return number;
     }
@@ -254,15 +249,8 @@ pub fn refusal_of(
 ) -> u8
     ensures { λ r. ⌜ r ≡ firstRefusal (validationRefusals p width «node_size» height «full_rounds» «partial_rounds» (now (diagonal .entry)) (now (constants .entry))) ⌝ }
 {
-    let number = refusal_of_shape(
-        width,
-        node_size,
-        height,
-        full_rounds,
-        partial_rounds,
-        diagonal,
-        constants,
-    );
+    let numbers = [width, node_size, height, full_rounds, partial_rounds];
+    let number = refusal_of_shape(numbers, diagonal, constants);
     if number != 0 {
         return number;
     }
@@ -320,15 +308,7 @@ pub fn hold(numbers: [u64; 5], diagonal: &[u64], constants: &[u64]) -> Held
     let height = numbers[2];
     let full_rounds = numbers[3];
     let partial_rounds = numbers[4];
-    let number = refusal_of_shape(
-        width,
-        node_size,
-        height,
-        full_rounds,
-        partial_rounds,
-        diagonal,
-        constants,
-    );
+    let number = refusal_of_shape(numbers, diagonal, constants);
     if number != 0 {
         return Held {
             number: number,

@@ -34,4 +34,7 @@ returns-3 c =
     ∙ refusal-passes 6 _ [] (sym (c .before .bad-lengths .ensures) ∙ c .if2 .left))
 
 pub refusal-of-shape-spec : {M : Type 1} → statement M
-refusal-of-shape-spec = tie.close (tie.spec (search needs) returns bad-lengths-requires returns-2 returns-3)
+refusal-of-shape-spec =
+    tie.close
+    (tie.spec
+    (search needs) (search needs) (search needs) (search needs) (search needs) (search needs) returns bad-lengths-requires returns-2 returns-3)
