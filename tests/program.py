@@ -152,19 +152,19 @@ def inputs() -> Iterator[Input]:
 
 
 def main() -> int:
-    """The number of inputs on which the program and the reference differ."""
+    """Runs every input; answers the exit status, which is 0 where there are some and none differs."""
     passed = failed = 0
     for name, data in inputs():
         expected = program.run(data)
-        got = subprocess.run([ROOT], input=data, stdout=subprocess.PIPE).stdout
-        if got == expected:
+        ran = subprocess.run([ROOT], input=data, stdout=subprocess.PIPE)
+        if ran.returncode == 0 and ran.stdout == expected:
             passed += 1
         else:
             failed += 1
-            print(f"{name}: got {got!r}, expected {expected!r}")
+            print(f"{name}: got {ran.stdout!r} and status {ran.returncode}, expected {expected!r}")
     print(f"{passed} passed, {failed} failed")
-    return failed
+    return 0 if passed and not failed else 1
 
 
 if __name__ == "__main__":
-    sys.exit(1 if main() else 0)
+    sys.exit(main())
