@@ -6,13 +6,13 @@
  *
  * A PARAMETER SET is handed in with every call, as nine arguments (OPENING_TREE_SET below): width t, node_size l, height h,
  * full_rounds R_F, partial_rounds R_P, diagonal D of t words, and constants C of t * R_F + R_P words. Below k = t / l.
- * D is the diagonal less one: the internal layer makes of word i the sum of all words plus D_i times word i. C is in order of use: t words
+ * D is the diagonal less one: word i after the internal layer is D_i times itself plus the sum of the state. C is in order of use: t words
  * for each full round of the first half, one for each partial round, t for each full round of the second half.
  * Choosing a safe set is the caller's part; opening_tree_published.h has the Poseidon2 authors' instances to start from.
  *
  * A TREE. A node is l words; a row is k nodes side by side, t words. The compression of a row adds its input: it is the first l words of
  * permutation(row) + row, word by word. Level 0 is the k^h leaves; node i of level j + 1 is the compression of the row that begins at node
- * k * i of level j; level h is the root. For h = 0 the root is the leaf. A place is a leaf's index, from 0.
+ * k * i of level j; level h is the root. Where h is 0, the one leaf is the root. A place is a leaf's index, from 0.
  *     leaves      k^h * l numbers
  *     a store     (1 + k + ... + k^h) * l numbers: level after level, leaves first; so the root is its last l
  *     an opening  h * (k - 1) * l numbers, the siblings: level by level from the leaves up, and at each level the row that holds the node
@@ -58,7 +58,7 @@ extern "C" {
 #define OPENING_TREE_BAD_LIST_LENGTH 6     /* D or C is of another length */
 #define OPENING_TREE_BAD_LIST_WORD 7       /* a number of D or C is not a word */
 #define OPENING_TREE_ZERO_IN_DIAGONAL 8    /* a word of D is 0 */
-#define OPENING_TREE_SINGULAR_DIAGONAL 9   /* 1 plus the inverses of all D is 0 */
+#define OPENING_TREE_SINGULAR_DIAGONAL 9   /* the inverses of D sum to -1 */
 #define OPENING_TREE_BAD_LENGTH 10         /* another buffer is not of its exact length, or a push has over 2^32 records */
 #define OPENING_TREE_BAD_PLACE 11          /* a place is not below k^h, or a level not below h */
 #define OPENING_TREE_NOT_A_WORD 12         /* a number handed in is not a word */
@@ -135,9 +135,9 @@ uint8_t opening_tree_storeless_root(OPENING_TREE_SET, const uint64_t *leaves, si
 uint8_t opening_tree_open(OPENING_TREE_SET, const uint64_t *store, size_t store_count, uint64_t place, uint64_t *siblings,
                           size_t siblings_count);
 
-/* Whether the leaf stood at the place under the root, that is, put back among its siblings at each level it ends in the root: 0 where it
-   does, which is OPENING_TREE_ACCEPTED, and OPENING_TREE_REJECTED where it does not. Writes nothing. Refusals, in this order: 1 to 9,
-   10 (the root or the leaf is not of l numbers; siblings), 11 (the place is not below k^h), 12 (root, leaf, siblings). */
+/* Whether the leaf stood at the place under the root, that is, whether compressing its way up among the siblings ends in the root: 0
+   where it does, which is OPENING_TREE_ACCEPTED, and OPENING_TREE_REJECTED where it does not. Writes nothing. Refusals, in this order: 1
+   to 9, 10 (the root or the leaf is not of l numbers; siblings), 11 (the place is not below k^h), 12 (root, leaf, siblings). */
 uint8_t opening_tree_verify(OPENING_TREE_SET, const uint64_t *root, size_t root_count, uint64_t place, const uint64_t *leaf,
                             size_t leaf_count, const uint64_t *siblings, size_t siblings_count);
 
@@ -180,7 +180,7 @@ static inline uint8_t opening_tree_push(OPENING_TREE_SET, uint64_t *store, size_
 /* ---- Collisions */
 
 /* Of two leaves with their openings, both accepted at the same place under the same root: the lowest level at which their rows differ and
-   compress alike. A leaf's row at a level is the k nodes that opening_tree_verify compresses there. Writes the level to *level, the first
+   compress alike. A leaf's row at a level is what opening_tree_verify compresses there. Writes the level to *level, the first
    leaf's row to first_row and the second's to second_row. Refusals, in this order: 1 to 9, 10 (the root or a leaf is not of l numbers;
    siblings; a row is not of t numbers), 11 (the place is not below k^h), 12 (root, leaves, siblings), 14 (an opening is not accepted),
    15 (the leaves are equal). */

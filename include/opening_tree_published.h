@@ -5,7 +5,7 @@
  *
  *     opening_tree_build(OPENING_TREE_PUBLISHED_12(6, 16), leaves, leaves_count, store, store_count)
  *
- * D is the diagonal less one, here as everywhere: the internal layer makes of word i the sum of all words plus D_i times word i.
+ * D is the diagonal less one, here as everywhere: word i after the internal layer is D_i times itself plus the sum of the state.
  *
  * These are the authors' numbers, and that they are safe is the authors' claim: nothing is claimed of it here. Whether they fit is the
  * caller's part, and so is the node size. Under any set whatever, two rows that compress alike are found by chance after some

@@ -261,7 +261,7 @@ pub fn push(set: &SetNumbers, store: &mut [u64], records: &[Record]) -> Result<u
     push_numbers(set, store, record_numbers(records))
 }
 
-/// [`push`] of records that are handed in as a flat list, seven numbers each: a place, and six words of which the first l are the leaf.
+/// [`push`] of records that are handed in as a flat list, seven numbers each: a place, then the words of a [`Record`].
 /// Refusal 10 also for a list that is not a multiple of seven.
 ///
 /// [`record_numbers`] makes the flat list of [`Record`]s.

@@ -1,6 +1,6 @@
 //! Replacement records.
 
-/// One replacement of a push: a place, and six words of which the first l are the leaf. The others are not read.
+/// One replacement of a push: a place, and room for a leaf of up to six words. The first l are read, the others are not.
 #[derive(Clone, Copy, Debug, PartialEq, Eq, Hash)]
 #[repr(C)]
 pub struct Record {

@@ -90,7 +90,7 @@ impl fmt::Display for Refusal {
             Refusal::BadListLength => "the diagonal or the constants are of wrong length",
             Refusal::BadListWord => "a number in the diagonal or the constants is not below p",
             Refusal::ZeroInDiagonal => "a word of the diagonal is 0",
-            Refusal::SingularDiagonal => "1 plus the inverses of all the diagonal is 0",
+            Refusal::SingularDiagonal => "the inverses of the diagonal sum to -1",
             Refusal::BadLength => "a buffer is not of its exact length, or a push has over 2^32 records",
             Refusal::BadPlace => "a place is not below the number of leaves, or a level not below the height",
             Refusal::NotAWord => "a number handed in is not a word",

@@ -17,7 +17,7 @@ use crate::refusal::Refusal;
 #[derive(Clone, Copy, Debug, PartialEq, Eq, Hash)]
 #[must_use = "the opening is accepted only where this is `Verdict::Accepted`"]
 pub enum Verdict {
-    /// The leaf, put back among its siblings at each level, ends in the root.
+    /// Compressing the leaf's way up among its siblings ends in the root.
     Accepted,
     /// It ends in another node.
     Rejected,
@@ -62,7 +62,7 @@ impl Verdict {
 #[derive(Clone, Copy, Debug, PartialEq, Eq, Hash)]
 #[must_use = "the opening is not accepted"]
 pub enum NotAccepted {
-    /// The leaf, put back among its siblings at each level, ends in another node than the root.
+    /// Compressing the leaf's way up among its siblings ends in another node than the root.
     Rejected,
     /// What was handed in is refused.
     Refused(Refusal),

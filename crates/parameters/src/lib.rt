@@ -133,7 +133,7 @@ fn has_zero(numbers: &[u64]) -> bool
     false
 }
 
-// Whether 1 plus the inverses of all D is 0, without an inversion: that sum times the product of all D is the product plus the sum
+// Whether the inverses of D and 1 sum to 0, without an inversion: that sum times the product of all D is the product plus the sum
 // of all products that leave one out, two products a word.
 fn bad_diagonal(diagonal: &[u64]) -> bool
     requires { ⌜ (allWords p (now diagonal) ≡ true) × (hasZero (now diagonal) ≡ false) ⌝ }
