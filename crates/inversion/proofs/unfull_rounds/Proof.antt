@@ -84,6 +84,5 @@ returns c =
 pub unfull-rounds-spec : {M : Type 1} → statement M
 unfull-rounds-spec =
     tie.close
-    (tie.spec
-    Inv-loop μ-loop loop-holds (λ c. omega arith) unexternal-requires mul-unraise add-unraise unraise-requires (λ c. omega arith)
-    loop-again same-length returns)
+    (tie.spec Inv-loop μ-loop loop-holds (λ c. omega arith) unexternal-requires mul-unraise add-unraise unraise-requires
+    (λ c. omega arith) loop-again same-length returns)

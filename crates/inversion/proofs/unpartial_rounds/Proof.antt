@@ -94,6 +94,6 @@ returns c =
 pub unpartial-rounds-spec : {M : Type 1} → statement M
 unpartial-rounds-spec =
     tie.close
-    (tie.spec
-    Inv-loop μ-loop loop-holds (λ c. omega arith) uninternal-requires slice-read-seventh-root seventh-root-requires (λ c. omega arith)
-    (λ c. omega arith) (λ c. omega arith) difference-requires slice-write-state (λ c. omega arith) loop-again same-length returns)
+    (tie.spec Inv-loop μ-loop loop-holds (λ c. omega arith) uninternal-requires slice-read-seventh-root seventh-root-requires
+    (λ c. omega arith) (λ c. omega arith) (λ c. omega arith) difference-requires slice-write-state (λ c. omega arith) loop-again
+    same-length returns)

@@ -37,4 +37,4 @@ returns c =
     ∙ kept-unpermute D (s .pre .1) (a .half) (a .partial-rounds) (a .constants .now) (a .state .now) (s .pre .0 .state .width)
 
 pub unpermute-spec : {M : Type 1} → statement M
-unpermute-spec = tie.close (tie.spec kept-inverses-requires total-inverse-requires (λ c κs. search needs) (search needs) returns)
+unpermute-spec = tie.close (tie.spec kept-inverses-requires total-inverse-requires (λ c κs. search needs) (λ c. search needs) returns)

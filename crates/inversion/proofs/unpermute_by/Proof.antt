@@ -77,6 +77,5 @@ returns c =
 pub unpermute-by-spec : {M : Type 1} → statement M
 unpermute-by-spec =
     tie.close
-    (tie.spec
-    mul-middle add-unfull-rounds unfull-rounds-requires unpartial-rounds-requires unfull-rounds-requires-2 unexternal-requires
-    (search needs) returns)
+    (tie.spec mul-middle add-unfull-rounds unfull-rounds-requires unpartial-rounds-requires unfull-rounds-requires-2 unexternal-requires
+    (λ c. search needs) returns)

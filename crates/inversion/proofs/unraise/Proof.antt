@@ -52,7 +52,6 @@ returns c =
 pub unraise-spec : {M : Type 1} → statement M
 unraise-spec =
     tie.close
-    (tie.spec
-    Inv-loop μ-loop loop-holds (λ c. omega arith) (λ c. omega arith) seventh-root-requires (λ c. omega arith) (λ c. omega arith)
+    (tie.spec Inv-loop μ-loop loop-holds (λ c. omega arith) (λ c. omega arith) seventh-root-requires (λ c. omega arith) (λ c. omega arith)
     (λ c. omega arith) difference-requires (λ c. omega arith) (λ c. omega arith) (λ c. omega arith) (λ c. omega arith) loop-again
     (λ c. omega arith) returns)

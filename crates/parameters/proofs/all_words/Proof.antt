@@ -35,5 +35,5 @@ returns-2 c = sym (decided-end (allWords p) _ _ (c .before .loop .inv) (omega ar
 pub all-words-spec : {M : Type 1} → statement M
 all-words-spec =
     tie.close
-    (tie.spec
-    Inv-loop μ-loop loop-holds (search needs) (search needs) returns (search needs) (search needs) loop-again returns-2)
+    (tie.spec Inv-loop μ-loop loop-holds (λ c. search needs) (λ c. search needs) returns (λ c. search needs) (λ c. search needs)
+    loop-again returns-2)

@@ -57,6 +57,6 @@ returns-2 c = sym (accepted p goldilocks _ _ _ (whole (c .before)) (λ e. c .if1
 pub bad-diagonal-spec : {M : Type 1} → statement M
 bad-diagonal-spec =
     tie.close
-    (tie.spec
-    Inv-loop μ-loop loop-holds (search needs) (search needs) (search needs) (search needs) (search needs) (search needs) (search needs)
-    (search needs) loop-again (search needs) (search needs) sum-requires returns returns-2)
+    (tie.spec Inv-loop μ-loop loop-holds (λ c. search needs) (λ c. search needs) (λ c. search needs) (λ c. search needs)
+    (λ c. search needs) (λ c. search needs) (λ c. search needs) (λ c. search needs) loop-again (λ c. search needs) (λ c. search needs)
+    sum-requires returns returns-2)

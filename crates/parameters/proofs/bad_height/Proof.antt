@@ -44,5 +44,4 @@ returns-3 c =
 pub bad-height-spec : {M : Type 1} → statement M
 bad-height-spec =
     tie.close
-    (tie.spec
-    Inv-loop μ-loop returns loop-holds mul-leaves returns-2 (search needs) (search needs) loop-again returns-3)
+    (tie.spec Inv-loop μ-loop returns loop-holds mul-leaves returns-2 (λ c. search needs) (λ c. search needs) loop-again returns-3)

@@ -21,4 +21,4 @@ unfolding badNodeSize
 returns-4 c = simp (ne-eqb _ _ (c .before .before .if1 .left), eq-eqb _ _ (c .before .if2 .left), le-ltb _ _ (c .if3 .left))
 
 pub bad-node-size-spec : {M : Type 1} → statement M
-bad-node-size-spec = tie.close (tie.spec returns (search needs) returns-2 (search needs) returns-3 returns-4)
+bad-node-size-spec = tie.close (tie.spec returns (λ c. search needs) returns-2 (λ c. search needs) returns-3 returns-4)

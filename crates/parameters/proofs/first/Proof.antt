@@ -8,4 +8,4 @@ slice-aggregate-result : tie.Need-slice-aggregate-result
 slice-aggregate-result c = sym (length-take-le _ _ (c .before .pre))
 
 pub first-spec : {M : Type 1} → statement M
-first-spec = tie.close (tie.spec slice-aggregate-result (search needs))
+first-spec = tie.close (tie.spec slice-aggregate-result (λ c. search needs))

@@ -34,5 +34,5 @@ returns-2 c = sym (decided-end hasZero _ _ (c .before .loop .inv) (omega arith))
 pub has-zero-spec : {M : Type 1} → statement M
 has-zero-spec =
     tie.close
-    (tie.spec
-    Inv-loop μ-loop loop-holds (search needs) (search needs) returns (search needs) (search needs) loop-again returns-2)
+    (tie.spec Inv-loop μ-loop loop-holds (λ c. search needs) (λ c. search needs) returns (λ c. search needs) (λ c. search needs)
+    loop-again returns-2)

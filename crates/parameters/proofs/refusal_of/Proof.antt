@@ -19,4 +19,4 @@ returns-2 c =
     ∙ first-back _ _ (shape-numbered _ _ _ _ _ _ _) (sym (s .before .refusal-of-shape .ensures) ∙ s .if1 .left))
 
 pub refusal-of-spec : {M : Type 1} → statement M
-refusal-of-spec = tie.close (tie.spec (search needs) returns (search needs) returns-2)
+refusal-of-spec = tie.close (tie.spec (λ c. search needs) returns (λ c. search needs) returns-2)

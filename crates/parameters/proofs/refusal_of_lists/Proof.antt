@@ -53,5 +53,5 @@ returns-5 c =
 pub refusal-of-lists-spec : {M : Type 1} → statement M
 refusal-of-lists-spec =
     tie.close
-    (tie.spec
-    (search needs) returns (search needs) returns-2 (search needs) returns-3 bad-diagonal-requires returns-4 returns-5)
+    (tie.spec (λ c. search needs) returns (λ c. search needs) returns-2 (λ c. search needs) returns-3 bad-diagonal-requires returns-4
+    returns-5)

@@ -73,6 +73,5 @@ returns-6 c =
 pub refusal-of-numbers-spec : {M : Type 1} → statement M
 refusal-of-numbers-spec =
     tie.close
-    (tie.spec
-    (search needs) returns (search needs) returns-2 (search needs) returns-3 (search needs) returns-4 div-bad-height bad-height-requires
-    returns-5 returns-6)
+    (tie.spec (λ c. search needs) returns (λ c. search needs) returns-2 (λ c. search needs) returns-3 (λ c. search needs) returns-4
+    div-bad-height bad-height-requires returns-5 returns-6)

@@ -53,4 +53,6 @@ returns-2 c =
     ∙ sym (first-back _ _ (numbers-numbered _ _ _ _ _) (sym (n .before .refusal-of-numbers .ensures) ∙ n .if1 .left))
 
 pub refusal-of-set-spec : {M : Type 1} → statement M
-refusal-of-set-spec = tie.close (tie.spec (search needs) returns mul-count add-count first-requires first-requires-2 (search needs) returns-2)
+refusal-of-set-spec =
+    tie.close
+    (tie.spec (λ c. search needs) returns mul-count add-count first-requires first-requires-2 (λ c. search needs) returns-2)

@@ -36,5 +36,5 @@ returns-3 c =
 pub refusal-of-shape-spec : {M : Type 1} → statement M
 refusal-of-shape-spec =
     tie.close
-    (tie.spec
-    (search needs) (search needs) (search needs) (search needs) (search needs) (search needs) returns bad-lengths-requires returns-2 returns-3)
+    (tie.spec (λ c. search needs) (λ c. search needs) (λ c. search needs) (λ c. search needs) (λ c. search needs) (λ c. search needs)
+    returns bad-lengths-requires returns-2 returns-3)

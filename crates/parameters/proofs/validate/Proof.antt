@@ -21,4 +21,4 @@ returns-3 c =
     accepted p _ _ _ _ _ _ _ _ (e .before .before .before .hold .ensures) (e .if1 .left) (sym (l .refusal-of-lists .ensures) ∙ c .if2 .left)
 
 pub validate-spec : {M : Type 1} → statement M
-validate-spec = tie.close (tie.spec (search needs) returns (search needs) (search needs) returns-2 returns-3)
+validate-spec = tie.close (tie.spec (λ c. search needs) returns (λ c. search needs) (λ c. search needs) returns-2 returns-3)

@@ -25,4 +25,4 @@ returns c =
     ∙ ap (compress p (a .node-size) (a .half) (a .partial-rounds) (a .diagonal .now) (a .constants .now)) (all-of (a .width) (a .row .now) (i .pre .6))
 
 pub compress-spec : {M : Type 1} → statement M
-compress-spec = tie.close (tie.spec (λ c κs. search needs) write-requires (search needs) returns)
+compress-spec = tie.close (tie.spec (λ c κs. search needs) write-requires (λ c. search needs) returns)

@@ -25,4 +25,4 @@ returns c =
     (compress-code p (a .node-size) (a .width) (a .half) (a .partial-rounds) (a .diagonal .now) (a .constants .now) row s (i .pre .1) (r .compressed .ensures))
 
 pub compress-at-spec : {M : Type 1} → statement M
-compress-at-spec = tie.close (tie.spec (λ c κs. search needs) write-requires (search needs) returns)
+compress-at-spec = tie.close (tie.spec (λ c κs. search needs) write-requires (λ c. search needs) returns)

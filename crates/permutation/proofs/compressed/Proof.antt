@@ -89,7 +89,6 @@ returns-3 c =
 pub compressed-spec : {M : Type 1} → statement M
 compressed-spec =
     tie.close
-    (tie.spec
-    permute4-requires (search needs) returns permute8-requires (search needs) (search needs) (search needs) (search needs) (search needs)
-    returns-2 permute12-requires (search needs) add-input-requires-4 (search needs) (search needs) add-input-requires-5 (search needs)
-    (search needs) add-input-requires-6 returns-3)
+    (tie.spec permute4-requires (λ c. search needs) returns permute8-requires (λ c. search needs) (λ c. search needs) (λ c. search needs)
+    (λ c. search needs) (λ c. search needs) returns-2 permute12-requires (λ c. search needs) add-input-requires-4 (λ c. search needs)
+    (λ c. search needs) add-input-requires-5 (λ c. search needs) (λ c. search needs) add-input-requires-6 returns-3)

@@ -23,4 +23,4 @@ returns c =
     ∙ ap (permute p (a .half) (a .partial-rounds) (a .diagonal .now) (a .constants .now)) (all-of (a .width) (a .state .now) (i .pre .5))
 
 pub permute-spec : {M : Type 1} → statement M
-permute-spec = tie.close (tie.spec (λ c κs. search needs) write-requires (search needs) returns)
+permute-spec = tie.close (tie.spec (λ c κs. search needs) write-requires (λ c. search needs) returns)

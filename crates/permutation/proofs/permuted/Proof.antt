@@ -62,6 +62,6 @@ returns-3 c =
 pub permuted-spec : {M : Type 1} → statement M
 permuted-spec =
     tie.close
-    (tie.spec
-    permute4-requires (search needs) returns permute8-requires (search needs) (search needs) (search needs) (search needs) returns-2
-    permute12-requires (search needs) (search needs) (search needs) (search needs) (search needs) (search needs) returns-3)
+    (tie.spec permute4-requires (λ c. search needs) returns permute8-requires (λ c. search needs) (λ c. search needs) (λ c. search needs)
+    (λ c. search needs) returns-2 permute12-requires (λ c. search needs) (λ c. search needs) (λ c. search needs) (λ c. search needs)
+    (λ c. search needs) (λ c. search needs) returns-3)

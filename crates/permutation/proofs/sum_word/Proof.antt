@@ -10,4 +10,4 @@ returns c =
     sum-of-words (r .before .args .x) (r .before .args .y) (r .residue .ensures) (s .sum .ensures) (c .residue2 .ensures)
 
 pub sum-word-spec : {M : Type 1} → statement M
-sum-word-spec = tie.close (tie.spec (search needs) (search needs) (search needs) returns)
+sum-word-spec = tie.close (tie.spec (λ c. search needs) (λ c. search needs) (λ c. search needs) returns)

@@ -38,7 +38,7 @@ pub +put-decimal-spec : {M : Type 1} → statement M
     let s = c .before .before in
     omega (arith, s .pre .1, ap length (decimal-digit (s .args .n) (omega arith))))
     (λ c. omega arith)
-    (search needs)
+    (λ c. search needs)
     (λ c.
     let s = c .before .before in
     let digit = decimal-digit (s .args .n) (omega arith) in

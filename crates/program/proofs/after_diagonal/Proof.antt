@@ -8,4 +8,4 @@ returns : tie.Need-returns
 returns c = c .beyond2 .ensures ∙ same-drop (c .before .number-at .ensures) (c .before .before .beyond .ensures)
 
 pub after-diagonal-spec : {M : Type 1} → statement M
-after-diagonal-spec = tie.close (tie.spec (search needs) (search needs) (search needs) returns)
+after-diagonal-spec = tie.close (tie.spec (λ c. search needs) (λ c. search needs) (λ c. search needs) returns)

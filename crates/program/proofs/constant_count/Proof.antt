@@ -23,4 +23,4 @@ returns-4 : tie.Need-returns-4
 returns-4 c = count-within _ _ _ _ (count-fits _ _ _ _ (omega arith) (c .before .if2 .left) (c .if3 .left))
 
 pub constant-count-spec : {M : Type 1} → statement M
-constant-count-spec = tie.close (tie.spec returns returns-2 (search needs) returns-3 mul-result add-result returns-4)
+constant-count-spec = tie.close (tie.spec returns returns-2 (λ c. search needs) returns-3 mul-result add-result returns-4)

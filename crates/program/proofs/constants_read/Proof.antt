@@ -11,4 +11,6 @@ returns c =
     ∙ same-count (c .before .before .before .number-at .ensures) (c .before .before .number-at2 .ensures) (c .before .number-at3 .ensures) (ap length (c .before .before .before .before .after-diagonal .ensures))
 
 pub constants-read-spec : {M : Type 1} → statement M
-constants-read-spec = tie.close (tie.spec (search needs) (search needs) (search needs) (search needs) (search needs) returns)
+constants-read-spec =
+    tie.close
+    (tie.spec (λ c. search needs) (λ c. search needs) (λ c. search needs) (λ c. search needs) (λ c. search needs) returns)

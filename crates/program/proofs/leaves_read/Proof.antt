@@ -12,4 +12,4 @@ returns c =
     ∙ beyond-of (readCount (c .before .before .before .before .args .numbers .now)) _
 
 pub leaves-read-spec : {M : Type 1} → statement M
-leaves-read-spec = tie.close (tie.spec (search needs) (search needs) (search needs) returns)
+leaves-read-spec = tie.close (tie.spec (λ c. search needs) (λ c. search needs) (λ c. search needs) returns)

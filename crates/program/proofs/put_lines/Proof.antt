@@ -73,6 +73,5 @@ returns c =
 pub put-lines-spec : {M : Type 1} → statement M
 put-lines-spec =
     tie.close
-    (tie.spec
-    Inv-loop μ-loop loop-holds (λ c. omega arith) (λ c. omega arith) put-decimal-requires slice-write-output add-at (λ c. omega arith)
-    (λ c. omega arith) loop-again (λ c. omega arith) returns)
+    (tie.spec Inv-loop μ-loop loop-holds (λ c. omega arith) (λ c. omega arith) put-decimal-requires slice-write-output add-at
+    (λ c. omega arith) (λ c. omega arith) loop-again (λ c. omega arith) returns)

@@ -49,4 +49,4 @@ returns c =
 pub put-refused-spec : {M : Type 1} → statement M
 put-refused-spec =
     tie.close
-    (tie.spec (search needs) (search needs) put-decimal-requires slice-write-output add-result same-length returns)
+    (tie.spec (λ c. search needs) (λ c. search needs) put-decimal-requires slice-write-output add-result same-length returns)

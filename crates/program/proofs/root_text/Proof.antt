@@ -37,6 +37,5 @@ returns-4 c =
 pub root-text-spec : {M : Type 1} → statement M
 root-text-spec =
     tie.close
-    (tie.spec
-    (search needs) returns (search needs) returns-2 (search needs) returns-3 (search needs) (search needs) (search needs)
-    slice-aggregate-text-of (search needs) returns-4)
+    (tie.spec (λ c. search needs) returns (λ c. search needs) returns-2 (λ c. search needs) returns-3 (λ c. search needs)
+    (λ c. search needs) (λ c. search needs) slice-aggregate-text-of (λ c. search needs) returns-4)

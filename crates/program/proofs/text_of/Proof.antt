@@ -47,6 +47,6 @@ returns-3 c =
 pub text-of-spec : {M : Type 1} → statement M
 text-of-spec =
     tie.close
-    (tie.spec
-    (search needs) (search needs) (search needs) returns array-borrow-prefix-places slice-aggregate-node (search needs) (search needs)
-    (search needs) put-lines-requires (search needs) (search needs) (search needs) returns-2 (search needs) returns-3)
+    (tie.spec (λ c. search needs) (λ c. search needs) (λ c. search needs) returns array-borrow-prefix-places slice-aggregate-node
+    (λ c. search needs) (λ c. search needs) (λ c. search needs) put-lines-requires (λ c. search needs) (λ c. search needs)
+    (λ c. search needs) returns-2 (λ c. search needs) returns-3)

@@ -11,5 +11,5 @@ slice-aggregate-entry-to c = sym (length-take-le _ _ (omega arith))
 pub entry-to-part-spec : {M : Type 1} → statement M
 entry-to-part-spec =
     tie.close
-    (tie.spec
-    (search needs) slice-aggregate-entry-to (search needs) (search needs) (search needs) (search needs) (search needs) (search needs))
+    (tie.spec (λ c. search needs) slice-aggregate-entry-to (λ c. search needs) (λ c. search needs) (λ c. search needs) (λ c. search needs)
+    (λ c. search needs) (λ c. search needs))

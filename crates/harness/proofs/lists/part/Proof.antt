@@ -9,4 +9,4 @@ slice-aggregate-result : tie.Need-slice-aggregate-result
 slice-aggregate-result c = sym (length-take-le _ _ (omega arith))
 
 pub part-spec : {M : Type 1} → statement M
-part-spec = tie.close (tie.spec slice-aggregate-result (search needs) (search needs))
+part-spec = tie.close (tie.spec slice-aggregate-result (λ c. search needs) (λ c. search needs))

@@ -14,6 +14,5 @@ abbrev μ-loop : tie.MeasureT-loop
 pub read-runs-spec : {M : Type 1} → statement M
 read-runs-spec =
     tie.close
-    (tie.spec
-    Inv-loop μ-loop (search needs) (search needs) (search needs) (search needs) (search needs) (search needs) (search needs)
-    (search needs) (search needs) (search needs))
+    (tie.spec Inv-loop μ-loop (λ c. search needs) (λ c. search needs) (λ c. search needs) (λ c. search needs) (λ c. search needs)
+    (λ c. search needs) (λ c. search needs) (λ c. search needs) (λ c. search needs) (λ c. search needs))

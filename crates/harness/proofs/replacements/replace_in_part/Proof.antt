@@ -11,5 +11,5 @@ slice-aggregate-replace c = sym (length-take-le _ _ (omega arith))
 pub replace-in-part-spec : {M : Type 1} → statement M
 replace-in-part-spec =
     tie.close
-    (tie.spec
-    (search needs) slice-aggregate-replace (search needs) (search needs) (search needs) (search needs) (search needs) (search needs))
+    (tie.spec (λ c. search needs) slice-aggregate-replace (λ c. search needs) (λ c. search needs) (λ c. search needs) (λ c. search needs)
+    (λ c. search needs) (λ c. search needs))

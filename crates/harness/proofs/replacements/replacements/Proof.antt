@@ -15,5 +15,5 @@ abbrev μ-loop : tie.MeasureT-loop
 pub replacements-spec : {M : Type 1} → statement M
 replacements-spec =
     tie.close
-    (tie.spec
-    Inv-loop μ-loop (search needs) (search needs) (search needs) (search needs) (search needs) (search needs) (search needs))
+    (tie.spec Inv-loop μ-loop (λ c. search needs) (λ c. search needs) (λ c. search needs) (λ c. search needs) (λ c. search needs)
+    (λ c. search needs) (λ c. search needs))

@@ -10,4 +10,5 @@ slice-aggregate-copied c = sym (length-take-le _ _ (omega arith))
 
 pub level-refusal-spec : {M : Type 1} → statement M
 level-refusal-spec =
-    tie.close (tie.spec (search needs) (search needs) (search needs) slice-aggregate-copied (search needs) (search needs))
+    tie.close
+    (tie.spec (λ c. search needs) (λ c. search needs) (λ c. search needs) slice-aggregate-copied (λ c. search needs) (λ c. search needs))

@@ -11,5 +11,5 @@ slice-aggregate-each c = sym (length-take-le _ _ (omega arith))
 pub in-part-spec : {M : Type 1} → statement M
 in-part-spec =
     tie.close
-    (tie.spec
-    (search needs) slice-aggregate-each (search needs) (search needs) (search needs) (search needs) (search needs) (search needs))
+    (tie.spec (λ c. search needs) slice-aggregate-each (λ c. search needs) (λ c. search needs) (λ c. search needs) (λ c. search needs)
+    (λ c. search needs) (λ c. search needs))

@@ -27,6 +27,5 @@ returns c =
 pub add-blocks-spec : {M : Type 1} → statement M
 add-blocks-spec =
     tie.close
-    (tie.spec
-    (search needs) (search needs) sum-requires (search needs) (search needs) sum-requires-2 (search needs) (search needs) sum-requires-3
-    (search needs) (search needs) sum-requires-4 returns)
+    (tie.spec (λ c. search needs) (λ c. search needs) sum-requires (λ c. search needs) (λ c. search needs) sum-requires-2
+    (λ c. search needs) (λ c. search needs) sum-requires-3 (λ c. search needs) (λ c. search needs) sum-requires-4 returns)

@@ -28,7 +28,6 @@ returns c =
 pub put-block-spec : {M : Type 1} → statement M
 put-block-spec =
     tie.close
-    (tie.spec
-    (search needs) (search needs) (search needs) (search needs) (search needs) (search needs) slice-write-state-2 (search needs)
-    (search needs) (search needs) slice-write-state-3 (search needs) (search needs) (search needs) slice-write-state-4 (search needs)
-    returns)
+    (tie.spec (λ c. search needs) (λ c. search needs) (λ c. search needs) (λ c. search needs) (λ c. search needs) (λ c. search needs)
+    slice-write-state-2 (λ c. search needs) (λ c. search needs) (λ c. search needs) slice-write-state-3 (λ c. search needs)
+    (λ c. search needs) (λ c. search needs) slice-write-state-4 (λ c. search needs) returns)

@@ -30,6 +30,5 @@ returns c =
 pub row-times-spec : {M : Type 1} → statement M
 row-times-spec =
     tie.close
-    (tie.spec
-    (search needs) (search needs) (search needs) (search needs) sum-requires (search needs) (search needs) (search needs) (search needs)
-    sum-requires-2 sum-requires-3 returns)
+    (tie.spec (λ c. search needs) (λ c. search needs) (λ c. search needs) (λ c. search needs) sum-requires (λ c. search needs)
+    (λ c. search needs) (λ c. search needs) (λ c. search needs) sum-requires-2 sum-requires-3 returns)

@@ -49,5 +49,5 @@ returns c =
 pub sum-blocks-spec : {M : Type 1} → statement M
 sum-blocks-spec =
     tie.close
-    (tie.spec
-    Inv-loop μ-loop loop-holds (λ c. omega arith) (λ c κs. omega arith) add-blocks-requires (λ c. omega arith) loop-again returns)
+    (tie.spec Inv-loop μ-loop loop-holds (λ c. omega arith) (λ c κs. omega arith) add-blocks-requires (λ c. omega arith) loop-again
+    returns)

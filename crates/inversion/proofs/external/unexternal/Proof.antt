@@ -43,5 +43,4 @@ returns-2 c =
 pub unexternal-spec : {M : Type 1} → statement M
 unexternal-spec =
     tie.close
-    (tie.spec
-    unm4-each-requires (search needs) returns share-requires unm4-each-requires-2 (search needs) returns-2)
+    (tie.spec unm4-each-requires (λ c. search needs) returns share-requires unm4-each-requires-2 (λ c. search needs) returns-2)

@@ -56,6 +56,5 @@ returns c =
 pub unm4-each-spec : {M : Type 1} → statement M
 unm4-each-spec =
     tie.close
-    (tie.spec
-    Inv-loop μ-loop loop-holds (λ c κs. omega arith) add-blocks-requires unm4-requires (λ c κs. omega arith) (λ c. omega arith)
+    (tie.spec Inv-loop μ-loop loop-holds (λ c κs. omega arith) add-blocks-requires unm4-requires (λ c κs. omega arith) (λ c. omega arith)
     (λ c. omega arith) loop-again (λ c. omega arith) returns)

@@ -38,6 +38,5 @@ returns c =
 pub one-and-sum-spec : {M : Type 1} → statement M
 one-and-sum-spec =
     tie.close
-    (tie.spec
-    Inv-loop μ-loop loop-holds (λ c. omega arith) (λ c. omega arith) sum-requires (λ c. omega arith) (λ c. omega arith) loop-again
-    returns)
+    (tie.spec Inv-loop μ-loop loop-holds (λ c. omega arith) (λ c. omega arith) sum-requires (λ c. omega arith) (λ c. omega arith)
+    loop-again returns)

@@ -11,4 +11,4 @@ unfolding totalInverse
 returns c = c .inverse .ensures ∙ ap (inverse p) (c .before .one-and-sum .ensures)
 
 pub total-inverse-spec : {M : Type 1} → statement M
-total-inverse-spec = tie.close (tie.spec (λ c κs. search needs) (search needs) returns)
+total-inverse-spec = tie.close (tie.spec (λ c κs. search needs) (λ c. search needs) returns)

@@ -31,4 +31,4 @@ returns c =
     c .before .before .multiples-less .ensures ∙ sym (multiplesLess-take p (u .product .result) (a .inverses .now) ys) ∙ multiplesLess-same p same es ys
 
 pub uninternal-spec : {M : Type 1} → statement M
-uninternal-spec = tie.close (tie.spec (search needs) (search needs) multiples-less-requires (search needs) returns)
+uninternal-spec = tie.close (tie.spec (λ c. search needs) (λ c. search needs) multiples-less-requires (λ c. search needs) returns)

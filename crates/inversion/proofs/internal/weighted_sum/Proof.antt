@@ -40,6 +40,5 @@ returns c =
 pub weighted-sum-spec : {M : Type 1} → statement M
 weighted-sum-spec =
     tie.close
-    (tie.spec
-    Inv-loop μ-loop loop-holds (λ c. omega arith) (λ c. omega arith) (λ c. omega arith) (λ c. omega arith) (λ c κs. omega arith)
+    (tie.spec Inv-loop μ-loop loop-holds (λ c. omega arith) (λ c. omega arith) (λ c. omega arith) (λ c. omega arith) (λ c κs. omega arith)
     sum-requires (λ c. omega arith) (λ c. omega arith) loop-again returns)

@@ -11,4 +11,4 @@ returns c =
     external-one x (c .join-block .result) (m4-stands x (h .m4-high .result) (l .m4-low .result) (h .m4-high .ensures .0) (l .m4-low .ensures .0)) (c .join-block .ensures)
 
 pub external4-spec : {M : Type 1} → statement M
-external4-spec = tie.close (tie.spec (search needs) (search needs) (search needs) returns)
+external4-spec = tie.close (tie.spec (λ c. search needs) (λ c. search needs) (λ c. search needs) returns)

@@ -13,4 +13,4 @@ returns c =
     c .join-block .ensures ∙ ap₂ (λ (h l : List ℕ). residues p (joined h l)) (c .before .before .add-sum .ensures .0) (c .before .add-sum2 .ensures .0)
 
 pub mixed-block-spec : {M : Type 1} → statement M
-mixed-block-spec = tie.close (tie.spec (search needs) (search needs) (search needs) returns)
+mixed-block-spec = tie.close (tie.spec (λ c. search needs) (λ c. search needs) (λ c. search needs) returns)

@@ -9,4 +9,4 @@ returns c =
     raised (s .before .args .x) (s .before .args .c) (c .seventh-power .ensures) (s .sum .ensures)
 
 pub raise-spec : {M : Type 1} → statement M
-raise-spec = tie.close (tie.spec (search needs) (search needs) returns)
+raise-spec = tie.close (tie.spec (λ c. search needs) (λ c. search needs) returns)

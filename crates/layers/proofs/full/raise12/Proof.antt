@@ -35,6 +35,5 @@ returns c =
 pub raise12-spec : {M : Type 1} → statement M
 raise12-spec =
     tie.close
-    (tie.spec
-    (search needs) raise4-requires (search needs) (search needs) raise4-requires-2 (search needs) (search needs) raise4-requires-3
-    returns)
+    (tie.spec (λ c. search needs) raise4-requires (λ c. search needs) (λ c. search needs) raise4-requires-2 (λ c. search needs)
+    (λ c. search needs) raise4-requires-3 returns)

@@ -38,7 +38,7 @@ returns c =
 pub raise4-spec : {M : Type 1} → statement M
 raise4-spec =
     tie.close
-    (tie.spec
-    (search needs) (search needs) (search needs) raise-requires (search needs) (search needs) (search needs) (search needs)
-    raise-requires-2 (search needs) (search needs) (search needs) (search needs) raise-requires-3 (search needs) (search needs)
-    (search needs) (search needs) raise-requires-4 returns)
+    (tie.spec (λ c. search needs) (λ c. search needs) (λ c. search needs) raise-requires (λ c. search needs) (λ c. search needs)
+    (λ c. search needs) (λ c. search needs) raise-requires-2 (λ c. search needs) (λ c. search needs) (λ c. search needs)
+    (λ c. search needs) raise-requires-3 (λ c. search needs) (λ c. search needs) (λ c. search needs) (λ c. search needs) raise-requires-4
+    returns)

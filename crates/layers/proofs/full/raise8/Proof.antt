@@ -26,4 +26,4 @@ returns c =
     raised-two p (getD (a .t1) 0 []) (getD (a .t1) 1 []) (x .raise4 .result) (c .raise42 .result) (a .constants .now) (a .at) (x .raise4 .ensures) (c .raise42 .ensures)
 
 pub raise8-spec : {M : Type 1} → statement M
-raise8-spec = tie.close (tie.spec (search needs) raise4-requires (search needs) (search needs) raise4-requires-2 returns)
+raise8-spec = tie.close (tie.spec (λ c. search needs) raise4-requires (λ c. search needs) (λ c. search needs) raise4-requires-2 returns)

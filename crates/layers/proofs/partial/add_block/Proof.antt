@@ -37,6 +37,5 @@ returns c =
 pub add-block-spec : {M : Type 1} → statement M
 add-block-spec =
     tie.close
-    (tie.spec
-    (search needs) (search needs) (search needs) add-word-requires-2 (search needs) add-word-requires-3 (search needs) add-word-requires-4
-    returns)
+    (tie.spec (λ c. search needs) (λ c. search needs) (λ c. search needs) add-word-requires-2 (λ c. search needs) add-word-requires-3
+    (λ c. search needs) add-word-requires-4 returns)

@@ -19,4 +19,4 @@ returns c =
     )
 
 pub add-word-spec : {M : Type 1} → statement M
-add-word-spec = tie.close (tie.spec (search needs) (search needs) add-h returns)
+add-word-spec = tie.close (tie.spec (λ c. search needs) (λ c. search needs) add-h returns)

@@ -31,4 +31,6 @@ returns c =
     (carried (a .ah + a .bh) (a .al) (a .bl) s (k .carry .result) (i .fits .al .fits) (i .fits .bl .fits) (w .wrapping-add-u64 .ensures) (k .carry .ensures)))
 
 pub both-spec : {M : Type 1} → statement M
-both-spec = tie.close (tie.spec (search needs) (search needs) (search needs) add-h-2 fold-requires (search needs) returns)
+both-spec =
+    tie.close
+    (tie.spec (λ c. search needs) (λ c. search needs) (λ c. search needs) add-h-2 fold-requires (λ c. search needs) returns)

@@ -37,5 +37,5 @@ returns c =
 pub others12-spec : {M : Type 1} → statement M
 others12-spec =
     tie.close
-    (tie.spec
-    (search needs) (search needs) (search needs) add-block-requires (search needs) (search needs) both-requires returns)
+    (tie.spec (λ c. search needs) (λ c. search needs) (λ c. search needs) add-block-requires (λ c. search needs) (λ c. search needs)
+    both-requires returns)

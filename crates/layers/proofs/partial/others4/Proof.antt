@@ -23,4 +23,4 @@ returns c =
     (two-alone (a .t1) (ry .high * limit + ry .low) (y .add-word .ensures .0)) (one-alone (a .t1)))
 
 pub others4-spec : {M : Type 1} → statement M
-others4-spec = tie.close (tie.spec (search needs) (search needs) (search needs) (search needs) both-requires returns)
+others4-spec = tie.close (tie.spec (λ c. search needs) (λ c. search needs) (λ c. search needs) (λ c. search needs) both-requires returns)

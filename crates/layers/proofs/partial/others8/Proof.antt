@@ -26,4 +26,6 @@ returns c =
     (two-alone (a .t1) (ry .high * limit + ry .low) (y .add-word .ensures .0)) (one-and-block (a .t1) (a .b) (rz .high * limit + rz .low) (z .add-block .ensures .0)))
 
 pub others8-spec : {M : Type 1} → statement M
-others8-spec = tie.close (tie.spec (search needs) (search needs) (search needs) (search needs) (search needs) both-requires returns)
+others8-spec =
+    tie.close
+    (tie.spec (λ c. search needs) (λ c. search needs) (λ c. search needs) (λ c. search needs) (λ c. search needs) both-requires returns)

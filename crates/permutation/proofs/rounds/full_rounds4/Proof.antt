@@ -33,6 +33,5 @@ loop-again c =
 pub full-rounds4-spec : {M : Type 1} → statement M
 full-rounds4-spec =
     tie.close
-    (tie.spec
-    Inv-loop μ-loop (λ c. full-none p _ _ _ _ _) (search needs) returns (λ c. omega arith) (λ c. omega arith) raise4-requires (λ c. omega arith)
-    (λ c. omega arith) loop-again)
+    (tie.spec Inv-loop μ-loop (λ c. full-none p _ _ _ _ _) (λ c. search needs) returns (λ c. omega arith) (λ c. omega arith)
+    raise4-requires (λ c. omega arith) (λ c. omega arith) loop-again)

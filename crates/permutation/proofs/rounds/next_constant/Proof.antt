@@ -21,4 +21,4 @@ returns-2 c =
     (sym (constant-out p (a .constants .now) (a .at) (a .n) (a .i) (c .if1 .left)), lit< tt)
 
 pub next-constant-spec : {M : Type 1} → statement M
-next-constant-spec = tie.close (tie.spec (search needs) (search needs) (search needs) returns returns-2)
+next-constant-spec = tie.close (tie.spec (λ c. search needs) (λ c. search needs) (λ c. search needs) returns returns-2)

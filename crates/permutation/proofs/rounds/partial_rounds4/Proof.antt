@@ -28,6 +28,6 @@ returns c =
 pub partial-rounds4-spec : {M : Type 1} → statement M
 partial-rounds4-spec =
     tie.close
-    (tie.spec
-    Inv-loop μ-loop (search needs) (λ c κs. search needs) (search needs) (λ c κs. search needs) (λ c κs. search needs) (search needs) (search needs)
-    (search needs) (λ c. partial-none p _ _ _ _ _) (λ c. omega arith) (λ c κs. search needs) (λ c κs. search needs) (λ c. omega arith) loop-again returns)
+    (tie.spec Inv-loop μ-loop (λ c. search needs) (λ c κs. search needs) (λ c. search needs) (λ c κs. search needs) (λ c κs. search needs)
+    (λ c. search needs) (λ c. search needs) (λ c. search needs) (λ c. partial-none p _ _ _ _ _) (λ c. omega arith) (λ c κs. search needs)
+    (λ c κs. search needs) (λ c. omega arith) loop-again returns)

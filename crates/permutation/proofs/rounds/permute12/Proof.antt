@@ -54,7 +54,6 @@ returns c =
 pub permute12-spec : {M : Type 1} → statement M
 permute12-spec =
     tie.close
-    (tie.spec
-    (search needs) (search needs) (search needs) (search needs) (search needs) full-rounds12-requires (search needs)
-    partial-rounds12-requires (search needs) (search needs) raise12-requires (search needs) (search needs) full-rounds12-requires-2
-    returns)
+    (tie.spec (λ c. search needs) (λ c. search needs) (λ c. search needs) (λ c. search needs) (λ c. search needs) full-rounds12-requires
+    (λ c. search needs) partial-rounds12-requires (λ c. search needs) (λ c. search needs) raise12-requires (λ c. search needs)
+    (λ c. search needs) full-rounds12-requires-2 returns)

@@ -51,6 +51,5 @@ returns c =
 pub permute4-spec : {M : Type 1} → statement M
 permute4-spec =
     tie.close
-    (tie.spec
-    (search needs) full-rounds4-requires (search needs) partial-rounds4-requires (search needs) (search needs) raise4-requires
-    (search needs) (search needs) full-rounds4-requires-2 returns)
+    (tie.spec (λ c. search needs) full-rounds4-requires (λ c. search needs) partial-rounds4-requires (λ c. search needs)
+    (λ c. search needs) raise4-requires (λ c. search needs) (λ c. search needs) full-rounds4-requires-2 returns)

@@ -53,6 +53,6 @@ returns c =
 pub permute8-spec : {M : Type 1} → statement M
 permute8-spec =
     tie.close
-    (tie.spec
-    (search needs) (search needs) (search needs) full-rounds8-requires (search needs) partial-rounds8-requires (search needs)
-    (search needs) raise8-requires (search needs) (search needs) full-rounds8-requires-2 returns)
+    (tie.spec (λ c. search needs) (λ c. search needs) (λ c. search needs) full-rounds8-requires (λ c. search needs)
+    partial-rounds8-requires (λ c. search needs) (λ c. search needs) raise8-requires (λ c. search needs) (λ c. search needs)
+    full-rounds8-requires-2 returns)

@@ -14,6 +14,6 @@ slice-aggregate-extract-2 c = sym (length-take-le _ _ (omega arith))
 pub extract-rows-spec : {M : Type 1} → statement M
 extract-rows-spec =
     tie.close
-    (tie.spec
-    (search needs) (search needs) (search needs) slice-aggregate-extract (search needs) slice-aggregate-extract-2 (search needs)
-    (search needs) (search needs) (search needs) (search needs) (search needs) (search needs) (search needs) (search needs))
+    (tie.spec (λ c. search needs) (λ c. search needs) (λ c. search needs) slice-aggregate-extract (λ c. search needs)
+    slice-aggregate-extract-2 (λ c. search needs) (λ c. search needs) (λ c. search needs) (λ c. search needs) (λ c. search needs)
+    (λ c. search needs) (λ c. search needs) (λ c. search needs) (λ c. search needs))

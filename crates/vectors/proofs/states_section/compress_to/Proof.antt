@@ -11,5 +11,5 @@ slice-aggregate-compress c = sym (length-take-le _ _ (omega arith))
 pub compress-to-spec : {M : Type 1} → statement M
 compress-to-spec =
     tie.close
-    (tie.spec
-    (search needs) slice-aggregate-compress (search needs) (search needs) (search needs) (search needs) (search needs) (search needs))
+    (tie.spec (λ c. search needs) slice-aggregate-compress (λ c. search needs) (λ c. search needs) (λ c. search needs) (λ c. search needs)
+    (λ c. search needs) (λ c. search needs))

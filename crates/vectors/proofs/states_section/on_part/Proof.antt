@@ -11,5 +11,5 @@ slice-aggregate-in-place c = sym (length-take-le _ _ (omega arith))
 pub on-part-spec : {M : Type 1} → statement M
 on-part-spec =
     tie.close
-    (tie.spec
-    (search needs) slice-aggregate-in-place (search needs) (search needs) (search needs) (search needs) (search needs) (search needs))
+    (tie.spec (λ c. search needs) slice-aggregate-in-place (λ c. search needs) (λ c. search needs) (λ c. search needs) (λ c. search needs)
+    (λ c. search needs) (λ c. search needs))
