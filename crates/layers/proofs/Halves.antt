@@ -1,5 +1,5 @@
 -- M_E by halves: blocks of high and low sums that stand for blocks of words.
-use mathlib.Core.Path.{_≡_, refl, sym, _∙_}
+use mathlib.Core.Path.{_≡_, refl, sym, ap, _∙_}
 use mathlib.Core.List.{List, [], _∷_, _++_}
 use Prim.Native.Nat.{ℕ, _+_, _*_, _/_, _%_}
 use native.Mathlib.Nat.{add-zero, div-add-mod, mod-mod}
@@ -55,6 +55,11 @@ row-halves c0 c1 c2 c3 a b c d =
 sum-residues : (p : ℕ) (ys zs : List ℕ) → residues p (addLists p (four ys) zs) ≡ addLists p (four ys) zs
 unfolding residues addLists add
 sum-residues p ys zs = four-eq (mod-mod _ p) (mod-mod _ p) (mod-mod _ p) (mod-mod _ p)
+
+-- a word and 0 is the word
+word-and-none : (p n : ℕ) → add p (n % p) 0 ≡ n % p
+unfolding add
+word-and-none p n = ap (λ (m : ℕ). m % p) (add-zero (n % p)) ∙ mod-mod n p
 
 module _ {p : ℕ} where
   row-stands : (c0 c1 c2 c3 : ℕ) (b : List ℕ) → let row = c0 ∷ c1 ∷ c2 ∷ c3 ∷ [] in dot row (highs b) * half + dot row (lows b) ≈⟨ p ⟩ dot row (four b) % p
@@ -156,7 +161,9 @@ module _ {p : ℕ} where
       let q : Stands p qh ql (sumBlocks p (m4 p (four x) ∷ m4 p (four y) ∷ [])) = rw (eh, el) (sum-stands sa sb none-stands) in
       append-eq (block-code r0 sa q e0) (append-eq (block-code r1 sb q e1) refl)
 
-  -- and of one
-  pub external-one : (x r : List ℕ) {h l : List ℕ} → Stands p h l (m4 p (four x)) → residues p (four r) ≡ residues p (joined h l) → residues p (four r) ≡ external p (four x)
-  unfolding residues external blocks joinBlocks mixed m4 rowsTimes m4Rows
-  external-one x r s e = joined-residues (m4 p (four x)) r s e ∙ four-eq (mod-mod _ p) (mod-mod _ p) (mod-mod _ p) (mod-mod _ p)
+  -- and of one, with nothing added
+  pub external-one : (x r : List ℕ) {h l : List ℕ} → Stands p h l (m4 p (four x))
+      → residues p (four r) ≡ residues p (joined (plus h (0 ∷ 0 ∷ 0 ∷ 0 ∷ [])) (plus l (0 ∷ 0 ∷ 0 ∷ 0 ∷ [])))
+      → residues p (four r) ≡ external p (four x)
+  unfolding residues external blocks joinBlocks mixed m4 rowsTimes m4Rows addLists
+  external-one x r s e = block-code r s none-stands e ∙ four-eq (word-and-none p _) (word-and-none p _) (word-and-none p _) (word-and-none p _)

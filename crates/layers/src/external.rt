@@ -145,5 +145,6 @@ pub fn external4(x: [u64; 4]) -> [u64; 4]
 {
     let h = m4_high(x);
     let l = m4_low(x);
-    join_block(h, l)
+    let q = [0, 0, 0, 0];
+    mixed_block(h, q, l, q)
 }

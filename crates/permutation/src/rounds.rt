@@ -3,6 +3,7 @@
 ghost use mathlib.Core.Path.{_≡_};
 ghost use Prim.Native.Nat.{_+_, _*_, _<_, _≤_};
 ghost use lib.ListN.{length, getD, take, drop};
+ghost use Rattle.modular.specs.Congruence.{_≈⟨_⟩_};
 ghost use Rattle.modular.specs.Goldilocks.{p};
 ghost use Rattle.poseidon2.specs.Layers.{external};
 ghost use Rattle.poseidon2.specs.Rounds.{fullRounds, partialRounds, permute};
@@ -28,6 +29,13 @@ fn load(list: &[u64], at: usize) -> [u64; 4]
     ensures { λ r. ⌜ four r ≡ take 4 (drop at (now (list .entry))) ⌝ }
 {
     [list[at], list[at + 1], list[at + 2], list[at + 3]]
+}
+
+// The first entry of M_I's diagonal, D_0 + 1.
+fn first_entry(diagonal: &[u64; 12]) -> u64
+    ensures { λ r. ⌜ r ≈⟨ p ⟩ getD (now (diagonal .entry)) 0 0 + 1 ⌝ }
+{
+    lazy::sum(diagonal[0], 1)
 }
 
 // M_E, and n full rounds, each of which ends with it. The loop is left after M_E, so that it has one place in the code.
@@ -58,7 +66,7 @@ fn partial_rounds12(
     requires { ⌜ (at ≤ 72) × (n ≤ 64) × (Words p (take (at + n) (now constants))) ⌝ }
     ensures { λ r. ⌜ residues p (flat 3 r) ≡ partialRounds p (take 12 (now (diagonal .entry))) n (drop at (now (constants .entry))) (residues p (flat 3 x)) ⌝ }
 {
-    let e = lazy::sum(diagonal[0], 1);
+    let e = first_entry(diagonal);
     let a = x[0];
     let first = [
         lazy::sum(a[0], next_constant(constants, at, 0, n)),
@@ -103,7 +111,7 @@ fn partial_rounds8(
     requires { ⌜ (at ≤ 72) × (n ≤ 64) × (Words p (take (at + n) (now constants))) ⌝ }
     ensures { λ r. ⌜ residues p (flat 2 r) ≡ partialRounds p (take 8 (now (diagonal .entry))) n (drop at (now (constants .entry))) (residues p (flat 2 x)) ⌝ }
 {
-    let e = lazy::sum(diagonal[0], 1);
+    let e = first_entry(diagonal);
     let a = x[0];
     let first = [
         lazy::sum(a[0], next_constant(constants, at, 0, n)),
@@ -148,7 +156,7 @@ fn partial_rounds4(
     requires { ⌜ (at ≤ 72) × (n ≤ 64) × (Words p (take (at + n) (now constants))) ⌝ }
     ensures { λ r. ⌜ residues p (four r) ≡ partialRounds p (take 4 (now (diagonal .entry))) n (drop at (now (constants .entry))) (residues p (four x)) ⌝ }
 {
-    let e = lazy::sum(diagonal[0], 1);
+    let e = first_entry(diagonal);
     let mut s = [
         lazy::sum(x[0], next_constant(constants, at, 0, n)),
         x[1],

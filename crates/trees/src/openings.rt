@@ -13,6 +13,23 @@ use crate::Dimensions;
 use crate::nodes;
 use crate::sizes;
 
+// Two parts of a list are copied to the target from `to` on, the one behind the other.
+fn copy_two(
+    source: &[u64],
+    from: usize,
+    count: usize,
+    then: usize,
+    more: usize,
+    target: &mut [u64],
+    to: usize,
+)
+    requires { ⌜ (from + count ≤ length (now source)) × (then + more ≤ length (now source)) × (to + count + more ≤ length (now target)) ⌝ }
+    ensures { λ r. ⌜ now (target .exit) ≡ put (put (now (target .entry)) to (part from count (now (source .entry)))) (to + count) (part then more (now (source .entry))) ⌝ }
+{
+    nodes::copy_words(source, from, count, target, to);
+    nodes::copy_words(source, then, more, target, to + count);
+}
+
 // Row n of the store without its node c is copied to the target from `to` on.
 fn copy_siblings(d: Dimensions, store: &[u64], n: usize, c: usize, target: &mut [u64], to: usize)
     requires { ⌜ (ValidNumbers d) × (n * (d .arity * d .«node_size») + d .arity * d .«node_size» ≤ length (now store)) × (c < d .arity)
@@ -23,14 +40,9 @@ fn copy_siblings(d: Dimensions, store: &[u64], n: usize, c: usize, target: &mut 
     let width = d.arity * node_size;
     let start = n * width;
     let before = c * node_size;
-    nodes::copy_words(store, start, before, target, to);
-    nodes::copy_words(
-        store,
-        start + before + node_size,
-        width - before - node_size,
-        target,
-        to + before,
-    );
+    let behind = start + before + node_size;
+    let rest = width - before - node_size;
+    copy_two(store, start, before, behind, rest, target, to);
 }
 
 // The siblings of the h nodes from the place on, ascending.

@@ -23,12 +23,12 @@ returns : tie.Need-returns Inv-loop μ-loop
 returns c =
     let l = c .before in
     let s = l .before .before .before in
-    partial-end p (l .loop .inv) _ (omega arith) (s .sum2 .ensures) (s .before .next-constant .ensures .0)
+    partial-end p (l .loop .inv) _ (omega arith) (s .sum .ensures) (s .before .next-constant .ensures .0)
 
 pub partial-rounds12-spec : {M : Type 1} → statement M
 partial-rounds12-spec =
     tie.close
-    (tie.spec Inv-loop μ-loop (λ c. search needs) (λ c κs. search needs) (λ c. search needs) (λ c. search needs) (λ c κs. search needs)
+    (tie.spec Inv-loop μ-loop (λ c κs. search needs) (λ c. search needs) (λ c. search needs) (λ c κs. search needs)
     (λ c κs. search needs) (λ c. search needs) (λ c. search needs) (λ c. search needs) (λ c. search needs) (λ c. search needs)
     (λ c. partial-none p _ _ _ _ _) (λ c. omega arith) (λ c κs. search needs) (λ c κs. search needs) (λ c. omega arith) loop-again
     returns)
