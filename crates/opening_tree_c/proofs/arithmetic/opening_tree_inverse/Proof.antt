@@ -1,12 +1,10 @@
 use borrow.Author.Needs.{needs}
-use Rattle.opening_tree_c.proofs.Calls.{number-of, value-of}
+use Rattle.opening_tree_c.proofs.Calls.{same-value}
 use Rattle.opening_tree_c.proofs.arithmetic.opening_tree_inverse.Statement.{statement}
 use Rattle.opening_tree_c.proofs.arithmetic.opening_tree_inverse.Tie as tie
 
 returns : tie.Need-returns
-returns c =
-    let said = c .before .before .inverse .ensures in
-    (number-of (c .of-answer .ensures .0) said, value-of 0 _ (c .of-answer .ensures .1) said)
+returns c = same-value _ (c .of-answer .ensures) (c .before .before .inverse .ensures)
 
 pub opening-tree-inverse-spec : {M : Type 1} → statement M
-opening-tree-inverse-spec = tie.close (tie.spec (search needs) (search needs) returns)
+opening-tree-inverse-spec = tie.close (tie.spec (λ c. search needs) (λ c. search needs) returns)

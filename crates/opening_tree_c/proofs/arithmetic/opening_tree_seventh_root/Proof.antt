@@ -1,12 +1,10 @@
 use borrow.Author.Needs.{needs}
-use Rattle.opening_tree_c.proofs.Calls.{number-of, value-of}
+use Rattle.opening_tree_c.proofs.Calls.{same-value}
 use Rattle.opening_tree_c.proofs.arithmetic.opening_tree_seventh_root.Statement.{statement}
 use Rattle.opening_tree_c.proofs.arithmetic.opening_tree_seventh_root.Tie as tie
 
 returns : tie.Need-returns
-returns c =
-    let said = c .before .before .seventh-root .ensures in
-    (number-of (c .of-answer .ensures .0) said, value-of 0 _ (c .of-answer .ensures .1) said)
+returns c = same-value _ (c .of-answer .ensures) (c .before .before .seventh-root .ensures)
 
 pub opening-tree-seventh-root-spec : {M : Type 1} → statement M
-opening-tree-seventh-root-spec = tie.close (tie.spec (search needs) (search needs) returns)
+opening-tree-seventh-root-spec = tie.close (tie.spec (λ c. search needs) (λ c. search needs) returns)

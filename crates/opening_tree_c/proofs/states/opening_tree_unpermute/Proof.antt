@@ -1,19 +1,19 @@
 use borrow.Author.Needs.{needs}
-use Rattle.opening_tree_c.proofs.Calls.{refused-number, refused-buffer, entry-number, entry-buffer}
+use Rattle.opening_tree_c.proofs.Calls.{refused-buffer, entry-buffer}
 use Rattle.opening_tree_c.proofs.states.opening_tree_unpermute.Statement.{statement}
 use Rattle.opening_tree_c.proofs.states.opening_tree_unpermute.Tie as tie
 
 returns : tie.Need-returns
-returns c =
-    let e = c .before .before .hold .ensures in
-    (refused-number e (c .if1 .taken) _, refused-buffer e (c .if1 .taken) _ _)
+returns c = refused-buffer (c .before .before .hold .ensures) (c .if1 .taken) _ _ _
+
+abbrev held : tie.After-of-outcome → tie.Else1
+held c = c .before .before .before .before .before .before
 
 returns-2 : tie.Need-returns-2
 returns-2 c =
-    let w = c .before .before .before in
-    let h = w .before .before .before in
-    let e = h .before .before .hold .ensures in
-    (entry-number e (h .if1 .left) _ (c .of-outcome .ensures) (w .unpermute .ensures .0), entry-buffer e (h .if1 .left) _ _ (w .unpermute .ensures .1))
+    entry-buffer (held c .before .before .hold .ensures) (held c .if1 .left) _ _ _ (c .of-outcome .ensures)
+    (c .before .before .before .unpermute .ensures)
 
 pub opening-tree-unpermute-spec : {M : Type 1} → statement M
-opening-tree-unpermute-spec = tie.close (tie.spec (search needs) returns (search needs) (search needs) (search needs) returns-2)
+opening-tree-unpermute-spec =
+    tie.close (tie.spec (λ c. search needs) returns (λ c. search needs) (λ c. search needs) (λ c. search needs) returns-2)
