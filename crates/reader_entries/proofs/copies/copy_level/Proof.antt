@@ -1,5 +1,6 @@
 use mathlib.Core.Path.{_≡_, sym, ap, _∙_}
-use mathlib.Core.List.{[]}
+use mathlib.Core.List.{List, []}
+use Prim.Native.Nat.{ℕ}
 use native.Mathlib.Omega.{arith}
 use lib.ListN.{length}
 use borrow.Author.Needs.{needs}
@@ -37,13 +38,20 @@ copy-words-requires c κs = (omega arith, omega (arith, words-long (c .before)))
 same-length-2 : tie.Need-same-length-2
 same-length-2 c = search needs
 
+-- a reply's equations, with what the buffer holds for what they say of it
+left-as : {A : Type 0} {xs ys zs : List ℕ} → A × (ys ≡ zs) → xs ≡ ys → A × (xs ≡ zs)
+left-as e f = (e .0, f ∙ e .1)
+
+abbrev worded : tie.After-slice-known2 → tie.After-level-words
+worded c = c .before .before .before .before
+
 returns-2 : tie.Need-returns-2
 unfolding outcomeReply copyReply copied
 returns-2 c =
-    let w = c .before .before in
-    let x = w .before .before in
-    let e = done-equations (copyRefusals p _ _ _ _) [] _ _ (numbered _ _ _ _) (sym (x .before .before .refusal-of-copy .ensures) ∙ x .before .if1 .left) in
-    (e .0, w .copy-words .ensures ∙ whole-copy _ _ (words-long x) ∙ x .level-words .ensures ∙ e .1)
+    left-as
+    (done-equations (copyRefusals p _ _ _ _) [] _ _ (numbered _ _ _ _)
+    (sym (worded c .before .before .refusal-of-copy .ensures) ∙ worded c .before .if1 .left))
+    (c .before .before .copy-words .ensures ∙ whole-copy _ _ (words-long (worded c)) ∙ worded c .level-words .ensures)
 
 pub copy-level-spec : {M : Type 1} → statement M
 copy-level-spec =

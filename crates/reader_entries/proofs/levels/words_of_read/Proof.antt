@@ -20,9 +20,7 @@ equal-part-requires : tie.Need-equal-part-requires
 equal-part-requires c κs = search needs
 
 returns-2 : tie.Need-returns-2
-returns-2 c e =
-    let z = sym e ∙ c .before .if1 .left in
-    c .equal-part .ensures ∙ equal-parts _ _ _ z ∙ level-words _ _ _ z
+returns-2 c e = c .equal-part .ensures ∙ equal-parts _ _ _ (sym e ∙ c .before .if1 .left) ∙ level-words _ _ _ (sym e ∙ c .before .if1 .left)
 
 pub words-of-read-spec : {M : Type 1} → statement M
 words-of-read-spec =
