@@ -1,5 +1,5 @@
 -- A set and a state that are not refused.
-use mathlib.Core.Path.{_≡_}
+use mathlib.Core.Path.{_≡_, _∙_}
 use mathlib.Core.Bool.{not, true, _&&_}
 use mathlib.Core.List.{List}
 use Prim.Native.Nat.{ℕ, _+_, _*_, _/_, _≤_, _<_}
@@ -79,3 +79,7 @@ accepted-compression p s xs node positive z =
       node-fits = sets.node-size-fits p s positive (P .before);
       node-long = eqb-true (length node) (s .«node_size») (right-true (eqb (length xs) (s .width)) (eqb (length node) (s .«node_size»)) both);
     }
+
+-- a reply's equations, with what the buffer holds for what they say of it
+pub left-as : {A : Type 0} {xs ys zs : List ℕ} → A × (ys ≡ zs) → xs ≡ ys → A × (xs ≡ zs)
+left-as e f = (e .0, f ∙ e .1)

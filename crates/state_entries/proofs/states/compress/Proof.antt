@@ -8,7 +8,7 @@ use Rattle.modular.proofs.Goldilocks.{goldilocks}
 use Rattle.poseidon2.proofs.Rounds.{claims}
 use Rattle.refusals.proofs.Table.{refused-equations, done-equations}
 use Rattle.state_entries.specs.Permutation.{outcomeReply, compressRefusals, compressReply, compressUnder, compressed}
-use Rattle.state_entries.proofs.AcceptedStates.{accepted-compression, compression-numbered}
+use Rattle.state_entries.proofs.AcceptedStates.{AcceptedNode, accepted-compression, compression-numbered, left-as}
 use Rattle.state_entries.proofs.states.compress.Statement.{statement}
 use Rattle.state_entries.proofs.states.compress.Tie as tie
 
@@ -22,26 +22,31 @@ returns : tie.Need-returns
 unfolding outcomeReply compressReply compressed
 returns c = refused-equations (compressRefusals p _ _ _) [] _ _ _ (c .before .refusal-of-compression .ensures) (c .if1 .taken)
 
+passed : (c : tie.Else1) → AcceptedNode p (c .before .before .before .before .before .args .set) (c .before .before .before .before .before .args .state .now) (c .before .before .before .before .before .args .node .now)
+passed c = accepted-compression p _ _ _ (lit< tt) (sym (c .before .refusal-of-compression .ensures) ∙ c .if1 .left)
+
 compress-requires : tie.Need-compress-requires
 compress-requires c κs =
-    let r = c .before .before .before .before .before .before in
-    let A = accepted-compression p _ _ _ (lit< tt) (sym (r .before .refusal-of-compression .ensures) ∙ r .if1 .left) in
+    let A = passed (c .before .before .before .before .before .before) in
     (A .state .width, A .node-fits, A .state .half-some, A .state .half-few, A .state .partial-few, A .state .constants, A .state .long, A .node-long)
+
+abbrev held : tie.After-slice-known2 → tie.Else1
+held c = c .before .before .before .before .before .before .before .before .before
 
 same-length-2 : tie.Need-same-length-2
 same-length-2 c =
-    let w = c .before .before in
-    let r = w .before .before .before .before .before .before .before in
-    let A = accepted-compression p _ _ _ (lit< tt) (sym (r .before .refusal-of-compression .ensures) ∙ r .if1 .left) in
-    ap length (w .compress .ensures) ∙ claims p goldilocks .sizes .compression _ _ _ _ _ _ _ (A .state .width) (A .state .long) (A .node-fits) .width ∙ sym (A .node-long)
+    ap length (c .before .before .compress .ensures)
+    ∙ claims p goldilocks .sizes .compression _ _ _ _ _ _ _ (passed (held c) .state .width) (passed (held c) .state .long)
+    (passed (held c) .node-fits) .width
+    ∙ sym (passed (held c) .node-long)
 
 returns-2 : tie.Need-returns-2
 unfolding outcomeReply compressReply compressed compressUnder
 returns-2 c =
-    let w = c .before .before in
-    let r = w .before .before .before .before .before .before .before in
-    let d = done-equations (compressRefusals p _ _ _) [] _ _ (compression-numbered p _ _ _) (sym (r .before .refusal-of-compression .ensures) ∙ r .if1 .left) in
-    (d .0, w .compress .ensures ∙ d .1)
+    left-as
+    (done-equations (compressRefusals p _ _ _) [] _ _ (compression-numbered p _ _ _)
+    (sym (held c .before .refusal-of-compression .ensures) ∙ held c .if1 .left))
+    (c .before .before .compress .ensures)
 
 pub compress-spec : {M : Type 1} → statement M
 compress-spec =

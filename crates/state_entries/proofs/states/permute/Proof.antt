@@ -8,7 +8,7 @@ use Rattle.modular.proofs.Goldilocks.{goldilocks}
 use Rattle.poseidon2.proofs.Rounds.{claims}
 use Rattle.refusals.proofs.Table.{refused-equations, done-equations}
 use Rattle.state_entries.specs.Permutation.{outcomeReply, stateRefusals, stateReply, permuteUnder, permuted}
-use Rattle.state_entries.proofs.AcceptedStates.{accepted, state-numbered}
+use Rattle.state_entries.proofs.AcceptedStates.{Accepted, accepted, state-numbered, left-as}
 use Rattle.state_entries.proofs.states.permute.Statement.{statement}
 use Rattle.state_entries.proofs.states.permute.Tie as tie
 
@@ -22,26 +22,28 @@ returns : tie.Need-returns
 unfolding outcomeReply stateReply permuted
 returns c = refused-equations (stateRefusals p _ _) [] _ _ _ (c .before .refusal-of-state .ensures) (c .if1 .taken)
 
+passed : (c : tie.Else1) → Accepted p (c .before .before .before .before .args .set) (c .before .before .before .before .args .state .now)
+passed c = accepted p _ _ (lit< tt) (sym (c .before .refusal-of-state .ensures) ∙ c .if1 .left)
+
 permute-requires : tie.Need-permute-requires
 permute-requires c κs =
-    let r = c .before .before .before .before .before .before in
-    let A = accepted p _ _ (lit< tt) (sym (r .before .refusal-of-state .ensures) ∙ r .if1 .left) in
+    let A = passed (c .before .before .before .before .before .before) in
     (A .width, A .half-some, A .half-few, A .partial-few, A .constants, A .long)
+
+abbrev held : tie.After-slice-known2 → tie.Else1
+held c = c .before .before .before .before .before .before .before .before .before
 
 same-length-2 : tie.Need-same-length-2
 same-length-2 c =
-    let w = c .before .before in
-    let r = w .before .before .before .before .before .before .before in
-    let A = accepted p _ _ (lit< tt) (sym (r .before .refusal-of-state .ensures) ∙ r .if1 .left) in
-    ap length (w .permute .ensures) ∙ claims p goldilocks .sizes .permutation _ _ _ _ _ _ (A .width) (A .long) .width ∙ sym (A .long)
+    ap length (c .before .before .permute .ensures)
+    ∙ claims p goldilocks .sizes .permutation _ _ _ _ _ _ (passed (held c) .width) (passed (held c) .long) .width ∙ sym (passed (held c) .long)
 
 returns-2 : tie.Need-returns-2
 unfolding outcomeReply stateReply permuted permuteUnder
 returns-2 c =
-    let w = c .before .before in
-    let r = w .before .before .before .before .before .before .before in
-    let d = done-equations (stateRefusals p _ _) [] _ _ (state-numbered p _ _) (sym (r .before .refusal-of-state .ensures) ∙ r .if1 .left) in
-    (d .0, w .permute .ensures ∙ d .1)
+    left-as
+    (done-equations (stateRefusals p _ _) [] _ _ (state-numbered p _ _) (sym (held c .before .refusal-of-state .ensures) ∙ held c .if1 .left))
+    (c .before .before .permute .ensures)
 
 pub permute-spec : {M : Type 1} → statement M
 permute-spec =

@@ -9,7 +9,7 @@ use Rattle.poseidon2.proofs.Rounds.{claims}
 use Rattle.refusals.proofs.Table.{refused-equations, done-equations}
 use Rattle.state_entries.specs.Permutation.{outcomeReply, stateRefusals, stateReply, unpermuteUnder, unpermuted}
 use Rattle.parameters.proofs.AcceptedSets.{state-of, used-at}
-use Rattle.state_entries.proofs.AcceptedStates.{accepted, state-numbered}
+use Rattle.state_entries.proofs.AcceptedStates.{Accepted, accepted, state-numbered, left-as}
 use Rattle.state_entries.proofs.states.unpermute.Statement.{statement}
 use Rattle.state_entries.proofs.states.unpermute.Tie as tie
 
@@ -27,10 +27,12 @@ returns c = refused-equations (stateRefusals p _ _) [] _ _ _ (c .before .refusal
 places : (c : tie.After-unpermute-arg) → length (c .before .before .before .before .before .before .before .before .before .before .args .set .diagonal) ≡ 12
 places c = search needs
 
+passed : (c : tie.Else1) → Accepted p (c .before .before .before .before .args .set) (c .before .before .before .before .args .state .now)
+passed c = accepted p _ _ (lit< tt) (sym (c .before .refusal-of-state .ensures) ∙ c .if1 .left)
+
 unpermute-requires : tie.Need-unpermute-requires
 unpermute-requires c κs =
-    let r = c .before .before .before .before .before .before in
-    let A = accepted p _ _ (lit< tt) (sym (r .before .refusal-of-state .ensures) ∙ r .if1 .left) in (
+    let A = passed (c .before .before .before .before .before .before) in (
       record {
         width = A .width;
         someFull = A .half-some;
@@ -42,20 +44,22 @@ unpermute-requires c κs =
       A .diagonal (places c),
     )
 
+abbrev held : tie.After-slice-known2 → tie.Else1
+held c = c .before .before .before .before .before .before .before .before .before
+
 same-length-2 : tie.Need-same-length-2
 same-length-2 c =
-    let w = c .before .before in
-    let r = w .before .before .before .before .before .before .before in
-    let A = accepted p _ _ (lit< tt) (sym (r .before .refusal-of-state .ensures) ∙ r .if1 .left) in
-    ap length (w .unpermute .ensures) ∙ claims p goldilocks .invertible .permutation _ _ _ _ _ (A .width) (A .diagonal (places (w .before))) .from _ (state-of p _ _ (lit< tt) (A .long) (A .words)) .width ∙ sym (A .long)
+    ap length (c .before .before .unpermute .ensures)
+    ∙ claims p goldilocks .invertible .permutation _ _ _ _ _ (passed (held c) .width) (passed (held c) .diagonal (places (c .before .before .before)))
+    .from _ (state-of p _ _ (lit< tt) (passed (held c) .long) (passed (held c) .words)) .width
+    ∙ sym (passed (held c) .long)
 
 returns-2 : tie.Need-returns-2
 unfolding outcomeReply stateReply unpermuted unpermuteUnder
 returns-2 c =
-    let w = c .before .before in
-    let r = w .before .before .before .before .before .before .before in
-    let d = done-equations (stateRefusals p _ _) [] _ _ (state-numbered p _ _) (sym (r .before .refusal-of-state .ensures) ∙ r .if1 .left) in
-    (d .0, w .unpermute .ensures ∙ d .1)
+    left-as
+    (done-equations (stateRefusals p _ _) [] _ _ (state-numbered p _ _) (sym (held c .before .refusal-of-state .ensures) ∙ held c .if1 .left))
+    (c .before .before .unpermute .ensures)
 
 pub unpermute-spec : {M : Type 1} → statement M
 unpermute-spec =
