@@ -50,6 +50,10 @@ first-front (r ∷ refusals) more o = at (r .applies) (first-front refusals more
     at true ih o = refl
     at false ih o = ih o
 
+-- so a number other than 0 that the front gives is that of all
+pub front-answers : (refusals more : List Refusal) {n : ℕ} → n ≡ firstRefusal refusals → n ≢ 0 → n ≡ firstRefusal (refusals ++ more)
+front-answers refusals more e o = e ∙ sym (first-front refusals more (λ z. o (e ∙ z)))
+
 -- Every refusal of the list has a number above 0.
 pub data Numbered : List Refusal → Type 0 where
   none : Numbered []

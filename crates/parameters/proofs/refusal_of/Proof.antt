@@ -1,22 +1,20 @@
 use mathlib.Core.Path.{sym, ap, _∙_}
 use borrow.Author.Needs.{needs}
 use Rattle.refusals.specs.Table.{firstRefusal}
-use Rattle.refusals.proofs.Table.{first-front, first-back}
+use Rattle.refusals.proofs.Table.{front-answers, first-back}
 use Rattle.parameters.proofs.Accepted.{shape-numbered, shape-first}
 use Rattle.parameters.proofs.refusal_of.Statement.{statement}
 use Rattle.parameters.proofs.refusal_of.Tie as tie
 
 returns : tie.Need-returns
 returns c =
-    let e = c .before .refusal-of-shape .ensures in
-    e ∙ sym (ap firstRefusal (shape-first _ _ _ _ _ _ _ _) ∙ first-front _ _ (λ z. c .if1 .taken (e ∙ z)))
+    front-answers _ _ (c .before .refusal-of-shape .ensures) (c .if1 .taken) ∙ sym (ap firstRefusal (shape-first _ _ _ _ _ _ _ _))
 
 returns-2 : tie.Need-returns-2
 returns-2 c =
-    let s = c .before in
     c .refusal-of-lists .ensures
     ∙ sym (ap firstRefusal (shape-first _ _ _ _ _ _ _ _)
-    ∙ first-back _ _ (shape-numbered _ _ _ _ _ _ _) (sym (s .before .refusal-of-shape .ensures) ∙ s .if1 .left))
+    ∙ first-back _ _ (shape-numbered _ _ _ _ _ _ _) (sym (c .before .before .refusal-of-shape .ensures) ∙ c .before .if1 .left))
 
 pub refusal-of-spec : {M : Type 1} → statement M
 refusal-of-spec = tie.close (tie.spec (λ c. search needs) returns (λ c. search needs) returns-2)

@@ -5,10 +5,10 @@ use native.Mathlib.Omega.{arith}
 use borrow.Author.Needs.{needs}
 use Rattle.modular.specs.Goldilocks.{p}
 use Rattle.refusals.specs.Table.{firstRefusal}
-use Rattle.refusals.proofs.Table.{first-front, first-back}
+use Rattle.refusals.proofs.Table.{front-answers, first-back}
 use Rattle.parameters.specs.Refusals.{constantCount, listRefusals}
 use Rattle.parameters.specs.ParameterSet.{heldRefusals}
-use Rattle.parameters.proofs.Accepted.{numbers-of, numbers-numbered, width-fits, count-fits}
+use Rattle.parameters.proofs.Accepted.{Numbers, numbers-of, numbers-numbered, width-fits, count-fits}
 use Rattle.parameters.proofs.refusal_of_set.Statement.{statement}
 use Rattle.parameters.proofs.refusal_of_set.Tie as tie
 
@@ -17,40 +17,33 @@ same-lists e f = cc
 
 returns : tie.Need-returns
 unfolding heldRefusals
-returns c =
-    let e = c .before .refusal-of-numbers .ensures in
-    e ∙ sym (first-front _ _ (λ z. c .if1 .taken (e ∙ z)))
+returns c = front-answers _ _ (c .before .refusal-of-numbers .ensures) (c .if1 .taken)
+
+-- the five numbers that were handed in
+numbers : (c : tie.Else1) → let a = c .before .before .args in Numbers (a .width) (a .node-size) (a .height) (a .full-rounds) (a .partial-rounds)
+numbers c = numbers-of _ _ _ _ _ (sym (c .before .refusal-of-numbers .ensures) ∙ c .if1 .left)
 
 mul-count : tie.Need-mul-count
 unfolding constantCount
-mul-count c = omega (arith, count-fits _ _ _ _ _ (numbers-of _ _ _ _ _ (sym (c .before .refusal-of-numbers .ensures) ∙ c .if1 .left)))
+mul-count c = omega (arith, count-fits _ _ _ _ _ (numbers c))
 
 add-count : tie.Need-add-count
 unfolding constantCount
-add-count c = omega (arith, count-fits _ _ _ _ _ (numbers-of _ _ _ _ _ (sym (c .before .refusal-of-numbers .ensures) ∙ c .if1 .left)))
+add-count c = omega (arith, count-fits _ _ _ _ _ (numbers c))
 
 first-requires : tie.Need-first-requires
-first-requires c κs =
-    let n = c .before in
-    let N = numbers-of _ _ _ _ _ (sym (n .before .refusal-of-numbers .ensures) ∙ n .if1 .left) in
-    omega (arith, width-fits _ (N .width))
+first-requires c κs = omega (arith, width-fits _ (numbers (c .before) .width))
 
 first-requires-2 : tie.Need-first-requires-2
 unfolding constantCount
-first-requires-2 c κs =
-    let n = c .before .before .before in
-    let N = numbers-of _ _ _ _ _ (sym (n .before .refusal-of-numbers .ensures) ∙ n .if1 .left) in
-    omega (arith, count-fits _ _ _ _ _ N)
+first-requires-2 c κs = omega (arith, count-fits _ _ _ _ _ (numbers (c .before .before .before)))
 
 returns-2 : tie.Need-returns-2
 unfolding heldRefusals constantCount
 returns-2 c =
-    let g = c .before in
-    let f = g .before .before in
-    let n = f .before .before in
     c .refusal-of-lists .ensures
-    ∙ same-lists (f .first .ensures) (g .first2 .ensures)
-    ∙ sym (first-back _ _ (numbers-numbered _ _ _ _ _) (sym (n .before .refusal-of-numbers .ensures) ∙ n .if1 .left))
+    ∙ same-lists (c .before .before .before .first .ensures) (c .before .first2 .ensures)
+    ∙ sym (first-back _ _ (numbers-numbered _ _ _ _ _) (sym (c .before .before .before .before .before .before .refusal-of-numbers .ensures) ∙ c .before .before .before .before .before .if1 .left))
 
 pub refusal-of-set-spec : {M : Type 1} → statement M
 refusal-of-set-spec =
