@@ -2,7 +2,7 @@ use mathlib.Core.Path.{sym, ap, _∙_}
 use borrow.Author.Needs.{needs}
 use borrow.Author.Tests.{eq-eqb, ne-eqb, not-true, not-false}
 use Rattle.modular.specs.Goldilocks.{p}
-use Rattle.refusals.proofs.Table.{first-front}
+use Rattle.refusals.proofs.Table.{front-answers}
 use Rattle.parameters.proofs.Accepted.{set-numbered}
 use Prim.Native.Nat.{ℕ, _-_}
 use lib.ListN.{length, drop}
@@ -19,9 +19,7 @@ refusal-of-requires c κs = search needs
 
 returns : tie.Need-returns
 unfolding rootRefusals
-returns c =
-    let e = c .before .refusal-of .ensures in
-    e ∙ sym (first-front _ _ (λ z. c .if1 .taken (e ∙ z)))
+returns c = front-answers _ _ (c .before .refusal-of .ensures) (c .if1 .taken)
 
 store-words-requires : tie.Need-store-words-requires
 store-words-requires c κs = sym (c .before .refusal-of .ensures) ∙ c .if1 .left

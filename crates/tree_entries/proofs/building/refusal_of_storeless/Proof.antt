@@ -2,7 +2,7 @@ use mathlib.Core.Path.{sym, _∙_}
 use borrow.Author.Needs.{needs}
 use borrow.Author.Tests.{eq-eqb, ne-eqb, not-true, not-false}
 use Rattle.modular.specs.Goldilocks.{p}
-use Rattle.refusals.proofs.Table.{first-front}
+use Rattle.refusals.proofs.Table.{front-answers}
 use Rattle.parameters.proofs.Accepted.{set-numbered}
 use Rattle.tree_entries.specs.Trees.{storelessRefusals}
 use Rattle.refusals.proofs.LengthsAndWords.{at-10, at-12, at-none, first-bad, second-bad, both-good}
@@ -14,9 +14,7 @@ refusal-of-requires c κs = search needs
 
 returns : tie.Need-returns
 unfolding storelessRefusals
-returns c =
-    let e = c .before .refusal-of .ensures in
-    e ∙ sym (first-front _ _ (λ z. c .if1 .taken (e ∙ z)))
+returns c = front-answers _ _ (c .before .refusal-of .ensures) (c .if1 .taken)
 
 leaf-words-requires : tie.Need-leaf-words-requires
 leaf-words-requires c κs = sym (c .before .refusal-of .ensures) ∙ c .if1 .left

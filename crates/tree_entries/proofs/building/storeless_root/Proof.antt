@@ -1,9 +1,8 @@
-use mathlib.Core.Path.{sym, ap, _∙_}
+use mathlib.Core.Path.{sym, _∙_}
 use mathlib.Core.List.{[]}
 use borrow.Author.Needs.{needs}
 use Rattle.modular.specs.Goldilocks.{p}
 use Rattle.refusals.proofs.Table.{refused-equations, done-equations}
-use lib.ListN.{length}
 use Rattle.state_entries.specs.Permutation.{outcomeReply}
 use Rattle.tree_entries.specs.Trees.{storelessRefusals, storelessReply, storelessRooted}
 use Rattle.trees.proofs.SetTrees as tree-of
@@ -27,6 +26,9 @@ passed c = trees.storeless-passed _ _ _ (sym (c .before .refusal-of-storeless .e
 dimensions-requires : tie.Need-dimensions-requires
 dimensions-requires c κs = passed c .set
 
+abbrev sized : tie.After-storeless-root → tie.After-dimensions
+sized w = w .before .before .before .before .before .before
+
 storeless-root-requires : tie.Need-storeless-root-requires
 storeless-root-requires c κs =
     let d = c .before .before .before .before .before in
@@ -35,18 +37,14 @@ storeless-root-requires c κs =
 
 same-length-2 : tie.Need-same-length-2
 same-length-2 c =
-    let w = c .before .before in
-    let d = w .before .before .before .before .before .before in
-    let A = passed (d .before) in
-    ap length (rw (d .dimensions .ensures) at (w .storeless-root .ensures)) ∙ tree-of.storeless-long _ (A .set) _ (A .leaves-long) ∙ sym (A .node-long)
+    let A = passed (sized (c .before .before) .before) in
+    rw (c .before .before .storeless-root .ensures, sized (c .before .before) .dimensions .ensures) (tree-of.storeless-long _ (A .set) _ (A .leaves-long) ∙ sym (A .node-long))
 
 returns-2 : tie.Need-returns-2
 unfolding outcomeReply storelessReply storelessRooted
 returns-2 c =
-    let w = c .before .before in
-    let d = w .before .before .before .before .before .before in
-    let e = done-equations (storelessRefusals p _ _ _) [] _ _ (trees.storeless-numbered _ _ _) (sym (d .before .before .refusal-of-storeless .ensures) ∙ d .before .if1 .left) in
-    (e .0, (rw (d .dimensions .ensures) at (w .storeless-root .ensures)) ∙ e .1)
+    rw (c .before .before .storeless-root .ensures, sized (c .before .before) .dimensions .ensures)
+    (done-equations (storelessRefusals p _ _ _) [] _ _ (trees.storeless-numbered _ _ _) (sym (sized (c .before .before) .before .before .refusal-of-storeless .ensures) ∙ sized (c .before .before) .before .if1 .left))
 
 pub storeless-root-spec : {M : Type 1} → statement M
 storeless-root-spec =

@@ -1,9 +1,11 @@
-use mathlib.Core.Path.{sym, ap, _∙_}
+use mathlib.Core.Path.{_≡_, sym, _∙_}
 use mathlib.Core.List.{[]}
 use borrow.Author.Needs.{needs}
 use Rattle.modular.specs.Goldilocks.{p}
+use Rattle.refusals.specs.Table.{firstRefusal}
 use Rattle.refusals.proofs.Table.{refused-equations, done-equations}
-use lib.ListN.{length}
+use Rattle.merkle.specs.Openings.{opening}
+use Rattle.trees.specs.SetTrees.{treeOf}
 use Rattle.trees.proofs.SetTrees.{same-size}
 use Rattle.state_entries.specs.Permutation.{outcomeReply}
 use Rattle.tree_entries.specs.Trees.{openRefusals, openReply, opened}
@@ -22,8 +24,11 @@ returns : tie.Need-returns
 unfolding outcomeReply openReply opened
 returns c = refused-equations (openRefusals p _ _ _ _) [] _ _ _ (c .before .refusal-of-open .ensures) (c .if1 .taken)
 
-passed : (c : tie.Else1) → trees.Opened (c .before .before .before .before .before .args .set) (c .before .before .before .before .before .args .store .now) (c .before .before .before .before .before .args .place) (c .before .before .before .before .before .args .siblings .now)
-passed c = trees.open-passed _ _ _ _ (sym (c .before .refusal-of-open .ensures) ∙ c .if1 .left)
+none : (c : tie.Else1) → let a = c .before .before .before .before .before .args in firstRefusal (openRefusals p (a .set) (a .store .now) (a .place) (a .siblings .now)) ≡ 0
+none c = sym (c .before .refusal-of-open .ensures) ∙ c .if1 .left
+
+passed : (c : tie.Else1) → let a = c .before .before .before .before .before .args in trees.Opened (a .set) (a .store .now) (a .place) (a .siblings .now)
+passed c = trees.open-passed _ _ _ _ (none c)
 
 dimensions-requires : tie.Need-dimensions-requires
 dimensions-requires c κs = passed c .set
@@ -40,7 +45,8 @@ same-length-2 c =
     let d = w .before .before in
     let A = passed (d .before) in
     let s = d .before .before .before .before .before .before .args .set in
-    ap length (rw (d .dimensions .ensures) at (w .«open» .ensures (s .diagonal) (s .constants))) ∙ tree-of.laws _ (A .set) .opened _ _ _ (A .store-long) (A .place) .long ∙ sym (A .siblings-long)
+    rw (rw (d .dimensions .ensures) at (w .«open» .ensures (s .diagonal) (s .constants)))
+    (tree-of.laws _ (A .set) .opened _ _ _ (A .store-long) (A .place) .long ∙ sym (A .siblings-long))
 
 returns-2 : tie.Need-returns-2
 unfolding outcomeReply openReply opened
@@ -48,8 +54,8 @@ returns-2 c =
     let w = c .before .before in
     let d = w .before .before in
     let s = d .before .before .before .before .before .before .args .set in
-    let e = done-equations (openRefusals p _ _ _ _) [] _ _ (trees.open-numbered _ _ _ _) (sym (d .before .before .refusal-of-open .ensures) ∙ d .before .if1 .left) in
-    (e .0, (rw (d .dimensions .ensures) at (w .«open» .ensures (s .diagonal) (s .constants))) ∙ e .1)
+    rw (rw (d .dimensions .ensures) at (w .«open» .ensures (s .diagonal) (s .constants)))
+    (done-equations (openRefusals p s _ _ _) [] _ (opening (treeOf p s) (s .height) _ _) (trees.open-numbered s _ _ _) (none (d .before)))
 
 pub open-spec : {M : Type 1} → statement M
 open-spec =

@@ -1,15 +1,19 @@
-use mathlib.Core.Path.{sym, ap, _∙_}
-use mathlib.Core.Bool.{not}
+use mathlib.Core.Path.{_≡_, sym, ap, _∙_}
+use mathlib.Core.Bool.{false, not, _&&_}
+use mathlib.Core.List.{[], _∷_}
+use Prim.Native.Nat.{_<_}
+use lib.ListN.{length}
 use borrow.Author.Needs.{needs}
 use borrow.Author.Tests.{eq-eqb, ne-eqb, lt-ltb, le-ltb, not-true, not-false}
 use Rattle.modular.specs.Goldilocks.{p}
-use Rattle.refusals.proofs.Table.{first-front}
+use Rattle.refusals.specs.Table.{notWords, firstRefusal}
+use Rattle.refusals.proofs.Table.{front-answers}
+use Rattle.parameters.specs.ParameterSet.{setRefusals}
 use Rattle.parameters.proofs.Accepted.{set-numbered}
 use Rattle.modular.specs.Arithmetic.{allWords}
 use Rattle.merkle.specs.Openings.{opening}
-use Rattle.trees.specs.Shapes.{tree}
-use Rattle.trees.specs.declared.Dimensions.{Dimensions}
-use Rattle.tree_entries.specs.Trees.{openRefusals}
+use Rattle.trees.specs.SetTrees.{treeOf, leafCount, storeWords, openingWords}
+use Rattle.tree_entries.specs.Trees.{has, openRefusals}
 use Rattle.trees.proofs.SetTrees.{same-size}
 use Rattle.trees.proofs.SetTrees as tree-of
 use Rattle.refusals.proofs.LengthsPlacesAndWords.{at-10, at-11, at-words, twelve, no-twelve}
@@ -22,82 +26,69 @@ refusal-of-requires c κs = search needs
 
 returns : tie.Need-returns
 unfolding openRefusals
-returns c =
-    let e = c .before .refusal-of .ensures in
-    e ∙ sym (first-front _ _ (λ z. c .if1 .taken (e ∙ z)))
+returns c = front-answers _ _ (c .before .refusal-of .ensures) (c .if1 .taken)
+
+-- what each test shows of what was handed in
+valid : (r : tie.Else1) → firstRefusal (setRefusals p (r .before .before .before .before .args .set)) ≡ 0
+valid r = sym (r .before .refusal-of .ensures) ∙ r .if1 .left
 
 store-words-requires : tie.Need-store-words-requires
-store-words-requires c κs = sym (c .before .refusal-of .ensures) ∙ c .if1 .left
+store-words-requires c κs = valid c
 
 returns-2 : tie.Need-returns-2
 unfolding openRefusals
-returns-2 c =
-    let r = c .before .before in
-    sym (at-10 p _ (set-numbered p _) _ _ _ (sym (r .before .refusal-of .ensures) ∙ r .if1 .left) (first-bad _ _ (ne-eqb _ _ (λ z. c .if2 .taken (z ∙ sym (c .before .store-words .ensures))))))
+returns-2 c = sym (at-10 p _ (set-numbered p _) _ _ _ (valid (c .before .before)) (first-bad _ _ (ne-eqb _ _ (λ z. c .if2 .taken (z ∙ sym (c .before .store-words .ensures))))))
+
+store-long : (n : tie.Else2) → let a = n .before .before .before .before .before .before .args in length (a .store .now) ≡ storeWords p (a .set)
+store-long n = n .if2 .left ∙ n .before .store-words .ensures
 
 opening-words-requires : tie.Need-opening-words-requires
-opening-words-requires c κs =
-    let r = c .before .before in
-    sym (r .before .refusal-of .ensures) ∙ r .if1 .left
+opening-words-requires c κs = valid (c .before .before)
 
 returns-3 : tie.Need-returns-3
 unfolding openRefusals
 returns-3 c =
-    let n = c .before .before in
-    let r = n .before .before in
-    sym (at-10 p _ (set-numbered p _) _ _ _ (sym (r .before .refusal-of .ensures) ∙ r .if1 .left) (second-bad _ _ (eq-eqb _ _ (n .if2 .left ∙ n .before .store-words .ensures)) (ne-eqb _ _ (λ z. c .if3 .taken (z ∙ sym (c .before .opening-words .ensures))))))
+    sym (at-10 p _ (set-numbered p _) _ _ _ (valid (c .before .before .before .before)) (second-bad _ _ (eq-eqb _ _ (store-long (c .before .before))) (ne-eqb _ _ (λ z. c .if3 .taken (z ∙ sym (c .before .opening-words .ensures))))))
+
+lengths : (m : tie.Else3) → let a = m .before .before .before .before .before .before .before .before .args in not (has (a .store .now) (storeWords p (a .set)) && has (a .siblings .now) (openingWords p (a .set))) ≡ false
+lengths m = both-good _ _ (eq-eqb _ _ (store-long (m .before .before))) (eq-eqb _ _ (m .if3 .left ∙ m .before .opening-words .ensures))
 
 places-requires : tie.Need-places-requires
-places-requires c κs =
-    let r = c .before .before .before .before in
-    sym (r .before .refusal-of .ensures) ∙ r .if1 .left
+places-requires c κs = valid (c .before .before .before .before)
 
 returns-4 : tie.Need-returns-4
 unfolding openRefusals
 returns-4 c =
-    let m = c .before .before in
-    let n = m .before .before in
-    let r = n .before .before in
-    sym (at-11 p _ (set-numbered p _) _ _ _ (sym (r .before .refusal-of .ensures) ∙ r .if1 .left) (both-good _ _ (eq-eqb _ _ (n .if2 .left ∙ n .before .store-words .ensures)) (eq-eqb _ _ (m .if3 .left ∙ m .before .opening-words .ensures))) (ap not (le-ltb _ _ (rw (c .before .places .ensures) at (c .if4 .taken)))))
+    sym (at-11 p _ (set-numbered p _) _ _ _ (valid (c .before .before .before .before .before .before)) (lengths (c .before .before)) (ap not (le-ltb _ _ (rw (c .before .places .ensures) at (c .if4 .taken)))))
+
+place : (q : tie.Else4) → let a = q .before .before .before .before .before .before .before .before .before .before .args in a .place < leafCount p (a .set)
+place q = rw (q .before .places .ensures) at (q .if4 .left)
 
 dimensions-requires : tie.Need-dimensions-requires
-dimensions-requires c κs =
-    let r = c .before .before .before .before .before .before in
-    sym (r .before .refusal-of .ensures) ∙ r .if1 .left
+dimensions-requires c κs = valid (c .before .before .before .before .before .before)
 
 opening-is-words-requires : tie.Need-opening-is-words-requires
 opening-is-words-requires c κs =
-    let q = c .before in
-    let m = q .before .before in
-    let n = m .before .before in
-    let r = n .before .before in
-    let v = tree-of.valid-numbers _ (sym (r .before .refusal-of .ensures) ∙ r .if1 .left) in
     rw (c .dimensions .ensures)
-    (v, λ D C. n .if2 .left ∙ n .before .store-words .ensures ∙ same-size _ _ _ D C, rw (q .before .places .ensures) at (q .if4 .left))
+    (tree-of.valid-numbers _ (valid (c .before .before .before .before .before .before .before)), λ D C. store-long (c .before .before .before .before .before) ∙ same-size _ _ _ D C, place (c .before))
+
+-- where these pass, the words of the opening decide
+behind : (q : tie.Else4)
+    → let a = q .before .before .before .before .before .before .before .before .before .before .args in firstRefusal (openRefusals p (a .set) (a .store .now) (a .place) (a .siblings .now)) ≡ firstRefusal (notWords p (opening (treeOf p (a .set)) (a .set .height) (a .place) (a .store .now)) ∷ [])
+unfolding openRefusals
+behind q = at-words p _ (set-numbered p _) _ _ _ (valid (q .before .before .before .before .before .before)) (lengths (q .before .before)) (ap not (lt-ltb _ _ (place q)))
+
+words : (w : tie.After-opening-is-words)
+    → let a = w .before .before .before .before .before .before .before .before .before .before .before .before .args in allWords p (opening (treeOf p (a .set)) (a .set .height) (a .place) (a .store .now)) ≡ w .opening-is-words .result
+words w =
+    let s = w .before .before .before .before .before .before .before .before .before .before .before .before .args .set in
+    sym (rw (w .before .dimensions .ensures) at (w .opening-is-words .ensures (s .diagonal) (s .constants)))
 
 returns-5 : tie.Need-returns-5
-unfolding openRefusals
-returns-5 c =
-    let q = c .before .before .before in
-    let m = q .before .before in
-    let n = m .before .before in
-    let r = n .before .before in
-    let s = r .before .before .before .before .args .set in
-    let d = c .before .before .dimensions .ensures in
-    sym (at-words p _ (set-numbered p _) _ _ _ (sym (r .before .refusal-of .ensures) ∙ r .if1 .left) (both-good _ _ (eq-eqb _ _ (n .if2 .left ∙ n .before .store-words .ensures)) (eq-eqb _ _ (m .if3 .left ∙ m .before .opening-words .ensures))) (ap not (lt-ltb _ _ (rw (q .before .places .ensures) at (q .if4 .left))))
-    ∙ twelve p _ (sym (c .before .opening-is-words .ensures (s .diagonal) (s .constants) ∙ ap (λ (e : Dimensions). allWords p (opening (tree e (s .diagonal) (s .constants)) (e .height) (r .before .before .before .before .args .place) (r .before .before .before .before .args .store .now))) d) ∙ not-true _ (c .if5 .taken)))
+returns-5 c = sym (behind (c .before .before .before) ∙ twelve p _ (words (c .before) ∙ not-true _ (c .if5 .taken)))
 
 returns-6 : tie.Need-returns-6
-unfolding openRefusals
-returns-6 c =
-    let q = c .before .before .before in
-    let m = q .before .before in
-    let n = m .before .before in
-    let r = n .before .before in
-    let s = r .before .before .before .before .args .set in
-    let d = c .before .before .dimensions .ensures in
-    sym (at-words p _ (set-numbered p _) _ _ _ (sym (r .before .refusal-of .ensures) ∙ r .if1 .left) (both-good _ _ (eq-eqb _ _ (n .if2 .left ∙ n .before .store-words .ensures)) (eq-eqb _ _ (m .if3 .left ∙ m .before .opening-words .ensures))) (ap not (lt-ltb _ _ (rw (q .before .places .ensures) at (q .if4 .left))))
-    ∙ no-twelve p _ (sym (c .before .opening-is-words .ensures (s .diagonal) (s .constants) ∙ ap (λ (e : Dimensions). allWords p (opening (tree e (s .diagonal) (s .constants)) (e .height) (r .before .before .before .before .args .place) (r .before .before .before .before .args .store .now))) d) ∙ not-false _ (c .if5 .left)))
+returns-6 c = sym (behind (c .before .before .before) ∙ no-twelve p _ (words (c .before) ∙ not-false _ (c .if5 .left)))
 
 pub refusal-of-open-spec : {M : Type 1} → statement M
 refusal-of-open-spec =

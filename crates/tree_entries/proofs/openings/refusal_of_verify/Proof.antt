@@ -3,7 +3,7 @@ use mathlib.Core.Bool.{not}
 use borrow.Author.Needs.{needs}
 use borrow.Author.Tests.{eq-eqb, ne-eqb, lt-ltb, le-ltb}
 use Rattle.modular.specs.Goldilocks.{p}
-use Rattle.refusals.proofs.Table.{first-front}
+use Rattle.refusals.proofs.Table.{front-answers}
 use Rattle.parameters.proofs.Accepted.{set-numbered}
 use Rattle.modular.proofs.Words.{and-true}
 use Rattle.tree_entries.specs.Trees.{verifyRefusals}
@@ -17,9 +17,7 @@ refusal-of-requires c κs = search needs
 
 returns : tie.Need-returns
 unfolding verifyRefusals
-returns c =
-    let e = c .before .refusal-of .ensures in
-    e ∙ sym (first-front _ _ (λ z. c .if1 .taken (e ∙ z)))
+returns c = front-answers _ _ (c .before .refusal-of .ensures) (c .if1 .taken)
 
 returns-2 : tie.Need-returns-2
 unfolding verifyRefusals

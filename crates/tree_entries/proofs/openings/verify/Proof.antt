@@ -1,4 +1,4 @@
-use mathlib.Core.Path.{sym, ap, _∙_}
+use mathlib.Core.Path.{_≡_, sym, ap, _∙_}
 use mathlib.Core.Bool.{Bool, cond}
 use mathlib.Core.List.{[], _∷_}
 use borrow.Author.Needs.{needs}
@@ -17,8 +17,7 @@ refusal-of-verify-requires c κs = search needs
 returns : tie.Need-returns
 unfolding verdictReply verifyReply
 returns c =
-    let e = c .before .refusal-of-verify .ensures in
-    ap refused e ∙ sym (reply-refused (verifyRefusals p _ _ _ _ _) _ (λ z. c .if1 .taken (e ∙ z)))
+    ap refused (c .before .refusal-of-verify .ensures) ∙ sym (reply-refused (verifyRefusals p _ _ _ _ _) _ (λ z. c .if1 .taken (c .before .refusal-of-verify .ensures ∙ z)))
 
 passed : (c : tie.Else1) → trees.Verified (c .before .before .before .before .before .args .set) (c .before .before .before .before .before .args .root .now) (c .before .before .before .before .before .args .place) (c .before .before .before .before .before .args .leaf .now) (c .before .before .before .before .before .args .siblings .now)
 passed c = trees.verify-passed _ _ _ _ _ (sym (c .before .refusal-of-verify .ensures) ∙ c .if1 .left)
@@ -32,21 +31,23 @@ accepts-requires c κs =
     let A = passed (d .before) in
     rw (d .dimensions .ensures) (tree-of.valid-set _ (A .set), A .root-long, A .leaf-long, A .siblings-long)
 
+abbrev sized : tie.After-accepts → tie.After-dimensions
+sized w = w .before .before .before .before .before
+
+-- the reply, by what was found of the path
+answered : (w : tie.After-accepts) → let a = sized w .before .before .before .before .before .before .args in verifyReply p (a .set) (a .root .now) (a .place) (a .leaf .now) (a .siblings .now) ≡ done (cond (w .accepts .result) 1 0 ∷ [])
+unfolding verifyReply
+answered w =
+    reply-done (verifyRefusals p _ _ _ _ _) _ (trees.verify-numbered _ _ _ _ _) (sym (sized w .before .before .refusal-of-verify .ensures) ∙ sized w .before .if1 .left)
+    ∙ ap (λ (b : Bool). done (cond b 1 0 ∷ [])) (sym (rw (sized w .dimensions .ensures) at (w .accepts .ensures)))
+
 returns-2 : tie.Need-returns-2
-unfolding verdictReply verifyReply
-returns-2 c =
-    let d = c .before .before .before .before .before .before in
-    let a = rw (d .dimensions .ensures) at (c .before .accepts .ensures) in
-    sym (reply-done (verifyRefusals p _ _ _ _ _) _ (trees.verify-numbered _ _ _ _ _) (sym (d .before .before .refusal-of-verify .ensures) ∙ d .before .if1 .left)
-    ∙ ap (λ (b : Bool). done (cond b 1 0 ∷ [])) (sym a ∙ c .if2 .taken))
+unfolding verdictReply
+returns-2 c = sym (answered (c .before) ∙ ap (λ (b : Bool). done (cond b 1 0 ∷ [])) (c .if2 .taken))
 
 returns-3 : tie.Need-returns-3
-unfolding verdictReply verifyReply
-returns-3 c =
-    let d = c .before .before .before .before .before .before in
-    let a = rw (d .dimensions .ensures) at (c .before .accepts .ensures) in
-    sym (reply-done (verifyRefusals p _ _ _ _ _) _ (trees.verify-numbered _ _ _ _ _) (sym (d .before .before .refusal-of-verify .ensures) ∙ d .before .if1 .left)
-    ∙ ap (λ (b : Bool). done (cond b 1 0 ∷ [])) (sym a ∙ c .if2 .left))
+unfolding verdictReply
+returns-3 c = sym (answered (c .before) ∙ ap (λ (b : Bool). done (cond b 1 0 ∷ [])) (c .if2 .left))
 
 pub verify-spec : {M : Type 1} → statement M
 verify-spec =
