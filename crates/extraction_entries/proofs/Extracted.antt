@@ -1,26 +1,27 @@
 -- Where extraction refuses nothing there is a collision: its level, and both rows.
 use mathlib.Core.Path.{_≡_, refl, sym, ap, _∙_}
 use mathlib.Core.Logic.{_≢_}
-use mathlib.Core.Bool.{Bool, true, false, not}
+use mathlib.Core.Bool.{true, false, not}
 use mathlib.Core.List.{List, [], _∷_}
 use mathlib.Core.Option.{Option, none, some}
 use Prim.Native.Nat.{ℕ, _<_}
 use borrow.Author.Tests.{not-false}
 use Rattle.modular.specs.Goldilocks.{p}
 use Rattle.modular.proofs.Words.{left-true, right-true}
-use Rattle.refusals.specs.Table.{refusal, firstRefusal}
-use Rattle.refusals.proofs.Table.{first-none, refusal-none}
+use Rattle.refusals.specs.Table.{refusal, firstRefusal, refused, done}
+use Rattle.refusals.proofs.Table.{first-none, refusal-none, reply-done, written-after, refused-equations}
 use Rattle.parameters.specs.declared.ParameterSet.{ParameterSet}
 use Rattle.merkle.specs.Lists.{same, lowest}
-use Rattle.merkle.specs.Openings.{pathRow, accepts}
+use Rattle.merkle.specs.Openings.{pathRow}
 use Rattle.merkle.specs.Extraction.{Collision, collideAt, withRows, extract}
 use Rattle.merkle.specs.Statements.{Extracts}
 use Rattle.merkle.proofs.Lists.{same-false}
 use Rattle.paths.specs.Levels.{levelOr}
 use Rattle.trees.specs.SetTrees.{treeOf}
 use Rattle.trees.proofs.SetTrees.{laws}
-use Rattle.extraction_entries.specs.Extraction.{Pair, pairRefusals, bothAccepted, extractRefusals, collision, levelOf, firstOf, secondOf}
-use Rattle.extraction_entries.proofs.AcceptedPairs.{Paired, pair-numbered, pair-passed}
+use Rattle.extraction_entries.specs.Extraction.{Pair, pairRefusals, bothAccepted, extractRefusals, collision, levelOf, firstOf, secondOf, extractReply, extractedFirst, extractedSecond}
+use Rattle.extraction_entries.proofs.AcceptedPairs.{Paired, pair-numbered, extract-numbered, pair-passed}
+use Rattle.extraction_entries.proofs.Verdicts.{one, other}
 
 -- a level of a collision, or another where there is none
 level-or : ℕ → Option Collision → ℕ
@@ -46,22 +47,20 @@ module _ (s : ParameterSet) (two : Pair) (first second : List ℕ) (z : firstRef
   pub differ : a ≢ b
   differ = same-false a b (refusal-none 14 (same a b) [] (accepted .1) .0)
 
-  abbrev one : Bool
-  one = accepts (treeOf p s) (s .height) top q a xs
-
-  abbrev other : Bool
-  other = accepts (treeOf p s) (s .height) top q b ys
-
   pub found : Extracts (treeOf p s) (s .height) q a xs b ys
   unfolding bothAccepted
   found =
       let L = laws s (paired .set) in
       L .binding (s .height) q a xs b ys (paired .opening .leaf-long) (paired .other .leaf-long) (paired .opening .siblings-long) (paired .other .siblings-long) differ
-      (L .accepting (s .height) top q a xs .0 (left-true one other both) ∙ sym (L .accepting (s .height) top q b ys .0 (right-true one other both)))
+      (L .accepting (s .height) top q a xs .0 (left-true (one s two) (other s two) both) ∙ sym (L .accepting (s .height) top q b ys .0 (right-true (one s two) (other s two) both)))
 
   pub collided : collision p s two ≡ some (found .collision)
   unfolding collision
   collided = found .given
+
+  pub replies : extractReply p s two first second ≡ done (levelOf (collision p s two) ∷ [])
+  unfolding extractReply
+  replies = reply-done (extractRefusals p s two first second) (levelOf (collision p s two) ∷ []) (extract-numbered s two first second) z
 
   module _ (r : ℕ) (e : r ≡ levelOr (s .height) (lowest (collideAt (treeOf p s) q a xs b ys) (s .height))) where
     searched : (o : Option ℕ) → levelOr (s .height) o ≡ level-or (s .height) (withRows (treeOf p s) q a xs b ys o)
@@ -76,14 +75,21 @@ module _ (s : ParameterSet) (two : Pair) (first second : List ℕ) (z : firstRef
     pub level-below : r < s .height
     level-below = rw is (found .lowestOne .below)
 
-    pub level-is : r ≡ levelOf (collision p s two)
-    unfolding levelOf
-    level-is = is ∙ sym (ap levelOf collided)
+    -- the reply and both buffers, of what the level and the rows were found to be
+    pub extracted : {row row2 : List ℕ} → row ≡ pathRow (treeOf p s) q a xs r → row2 ≡ pathRow (treeOf p s) q b ys r
+        → (done (r ∷ []) ≡ extractReply p s two first second) × (row ≡ extractedFirst p s two first second) × (row2 ≡ extractedSecond p s two first second)
+    unfolding levelOf firstOf secondOf extractedFirst extractedSecond
+    extracted f g = (
+      ap (λ (n : ℕ). done (n ∷ [])) (is ∙ sym (ap levelOf collided)) ∙ sym replies,
+      f ∙ ap (pathRow (treeOf p s) q a xs) is ∙ sym (ap (λ (o : Option Collision). firstOf o first) collided ∙ found .lowestOne .first) ∙ written-after first (firstOf (collision p s two) first) replies,
+      g ∙ ap (pathRow (treeOf p s) q b ys) is ∙ sym (ap (λ (o : Option Collision). secondOf o second) collided ∙ found .lowestOne .second) ∙ written-after second (secondOf (collision p s two) second) replies,
+    )
 
-    pub first-is : pathRow (treeOf p s) q a xs r ≡ firstOf (collision p s two) first
-    unfolding firstOf
-    first-is = ap (pathRow (treeOf p s) q a xs) is ∙ sym (found .lowestOne .first) ∙ sym (ap (λ (o : Option Collision). firstOf o first) collided)
-
-    pub second-is : pathRow (treeOf p s) q b ys r ≡ secondOf (collision p s two) second
-    unfolding secondOf
-    second-is = ap (pathRow (treeOf p s) q b ys) is ∙ sym (found .lowestOne .second) ∙ sym (ap (λ (o : Option Collision). secondOf o second) collided)
+-- and where something is refused
+pub refused-extract : (s : ParameterSet) (two : Pair) (first second : List ℕ) {n : ℕ} → n ≡ firstRefusal (extractRefusals p s two first second) → n ≢ 0
+    → (refused n ≡ extractReply p s two first second) × (first ≡ extractedFirst p s two first second) × (second ≡ extractedSecond p s two first second)
+unfolding extractReply extractedFirst extractedSecond
+refused-extract s two first second e o =
+    let level = levelOf (collision p s two) ∷ [] in
+    let f = refused-equations (extractRefusals p s two first second) level first (firstOf (collision p s two) first) _ e o in
+    (f .0, f .1, refused-equations (extractRefusals p s two first second) level second (secondOf (collision p s two) second) _ e o .1)

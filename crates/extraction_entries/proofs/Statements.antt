@@ -6,10 +6,10 @@ use Prim.Native.Nat.{ℕ, _<_}
 use Rattle.modular.specs.Goldilocks.{p}
 use Rattle.modular.proofs.Words.{left-true, right-true}
 use Rattle.refusals.specs.Table.{firstRefusal, done}
-use Rattle.refusals.proofs.Table.{reply-done, written-after}
+use Rattle.refusals.proofs.Table.{written-after}
 use Rattle.parameters.specs.declared.ParameterSet.{ParameterSet}
 use Rattle.parameters.specs.ParameterSet.{setRefusals}
-use Rattle.merkle.specs.Openings.{pathRow, accepts}
+use Rattle.merkle.specs.Openings.{pathRow}
 use Rattle.merkle.specs.Extraction.{Collision}
 use Rattle.merkle.proofs.Lists.{ne-same}
 use Rattle.merkle.proofs.Openings.{length-path-row, path-row-words}
@@ -17,11 +17,12 @@ use Rattle.trees.proofs.Shapes.{keeps-words}
 use Rattle.state_entries.specs.Permutation.{compressUnder}
 use Rattle.trees.specs.SetTrees.{treeOf}
 use Rattle.trees.proofs.SetTrees.{valid-numbers, width-is, shape-regular}
-use Rattle.extraction_entries.specs.Extraction.{Pair, bothAccepted, extractRefusals, collision, levelOf, firstOf, secondOf, extractReply, extractedFirst, extractedSecond}
+use Rattle.extraction_entries.specs.Extraction.{Pair, bothAccepted, extractRefusals, collision, levelOf, firstOf, secondOf, extractedFirst, extractedSecond}
 use Rattle.extraction_entries.specs.Statements.{IsRow, Collides, Written, Extracting}
-use Rattle.extraction_entries.proofs.AcceptedPairs.{Opening, extract-numbered}
+use Rattle.extraction_entries.proofs.AcceptedPairs.{Opening}
 use Rattle.extraction_entries.proofs.Verdicts.{other-leaves}
-use Rattle.extraction_entries.proofs.Extracted.{paired, found, collided}
+use Rattle.extraction_entries.proofs.Verdicts as verdicts
+use Rattle.extraction_entries.proofs.Extracted.{paired, found, collided, replies}
 
 -- what a verdict compresses at a level is a row
 row-at : (s : ParameterSet) → firstRefusal (setRefusals p s) ≡ 0 → (q : ℕ) (leaf siblings : List ℕ) → Opening s leaf siblings
@@ -32,20 +33,16 @@ row-at s valid q leaf siblings O j below = (
 )
 
 module _ (s : ParameterSet) (two : Pair) (first second : List ℕ) (z : firstRefusal (extractRefusals p s two first second) ≡ 0) where
-  replies : extractReply p s two first second ≡ done (levelOf (collision p s two) ∷ [])
-  unfolding extractReply
-  replies = reply-done (extractRefusals p s two first second) (levelOf (collision p s two) ∷ []) (extract-numbered s two first second) z
-
   one : extractedFirst p s two first second ≡ found s two first second z .collision .first
   unfolding firstOf extractedFirst
   one =
-      sym (written-after first (firstOf (collision p s two) first) replies)
+      sym (written-after first (firstOf (collision p s two) first) (replies s two first second z))
       ∙ ap (λ (o : Option Collision). firstOf o first) (collided s two first second z)
 
   other : extractedSecond p s two first second ≡ found s two first second z .collision .second
   unfolding secondOf extractedSecond
   other =
-      sym (written-after second (secondOf (collision p s two) second) replies)
+      sym (written-after second (secondOf (collision p s two) second) (replies s two first second z))
       ∙ ap (λ (o : Option Collision). secondOf o second) (collided s two first second z)
 
   collides : Collides s two first second
@@ -54,7 +51,7 @@ module _ (s : ParameterSet) (two : Pair) (first second : List ℕ) (z : firstRef
       let C = found s two first second z .lowestOne in
       record {
         level = found s two first second z .collision .level;
-        answered = replies ∙ ap (λ (o : Option Collision). done (levelOf o ∷ [])) (collided s two first second z);
+        answered = replies s two first second z ∙ ap (λ (o : Option Collision). done (levelOf o ∷ [])) (collided s two first second z);
         differ = λ w. C .differ (sym one ∙ w ∙ other);
         alike = ap (treeOf p s .compress) one ∙ C .alike ∙ sym (ap (treeOf p s .compress) other);
       }
@@ -76,7 +73,5 @@ module _ (s : ParameterSet) (two : Pair) (first second : List ℕ) (z : firstRef
 pub extracting : Extracting
 unfolding bothAccepted
 extracting s two first second none both differ =
-    let one = accepts (treeOf p s) (s .height) (two .root) (two .place) (two .firstLeaf) (two .firstSiblings) in
-    let other = accepts (treeOf p s) (s .height) (two .root) (two .place) (two .secondLeaf) (two .secondSiblings) in
-    let z = sym (other-leaves s two first second none (left-true one other both) (right-true one other both) (ne-same (two .firstLeaf) (two .secondLeaf) differ)) in
+    let z = sym (other-leaves s two first second none (left-true (verdicts.one s two) (verdicts.other s two) both) (right-true (verdicts.one s two) (verdicts.other s two) both) (ne-same (two .firstLeaf) (two .secondLeaf) differ)) in
     (collides s two first second z, written s two first second z)

@@ -69,35 +69,44 @@ unfolding firstRefusal
 opening-accepted true e z = refl
 opening-accepted false e z = absurd (omega (arith, sym e ∙ z))
 
-pub opening-rejected : (b : Bool) {r : ℕ} → r ≡ firstRefusal (refusal 14 (not b) ∷ []) → r ≢ 0 → (b ≡ false) × (r ≡ 14)
+opening-rejected : (b : Bool) {r : ℕ} → r ≡ firstRefusal (refusal 14 (not b) ∷ []) → r ≢ 0 → (b ≡ false) × (r ≡ 14)
 unfolding firstRefusal
 opening-rejected true e n = absurd (n e)
 opening-rejected false e n = (refl, e)
 
--- the refusals behind 12
-module _ (s : ParameterSet) (two : Pair) (first second : List ℕ) (none : firstRefusal (pairRefusals p s two first second) ≡ 0) where
-  abbrev one : Bool
+-- the verdicts on the two openings
+module _ (s : ParameterSet) (two : Pair) where
+  abbrev pub one : Bool
   one = accepts (treeOf p s) (s .height) (two .root) (two .place) (two .firstLeaf) (two .firstSiblings)
 
-  abbrev other : Bool
+  abbrev pub other : Bool
   other = accepts (treeOf p s) (s .height) (two .root) (two .place) (two .secondLeaf) (two .secondSiblings)
 
+-- the refusals behind 12
+module _ (s : ParameterSet) (two : Pair) (first second : List ℕ) (none : firstRefusal (pairRefusals p s two first second) ≡ 0) where
   behind : firstRefusal (extractRefusals p s two first second) ≡ firstRefusal (refusal 14 (not (bothAccepted p s two)) ∷ refusal 15 (same (two .firstLeaf) (two .secondLeaf)) ∷ [])
   unfolding extractRefusals
   behind = first-back (pairRefusals p s two first second) _ (pair-numbered s two first second) none
 
-  pub first-not-accepted : one ≡ false → _≡_ {A = ℕ} 14 (firstRefusal (extractRefusals p s two first second))
-  unfolding bothAccepted
-  first-not-accepted e = sym (behind ∙ refusal-applies 14 (not (bothAccepted p s two)) _ (ap not (and-false-left one other e)))
+  fourteen : bothAccepted p s two ≡ false → firstRefusal (extractRefusals p s two first second) ≡ 14
+  fourteen e = behind ∙ refusal-applies 14 (not (bothAccepted p s two)) _ (ap not e)
 
-  pub second-not-accepted : one ≡ true → other ≡ false → _≡_ {A = ℕ} 14 (firstRefusal (extractRefusals p s two first second))
+  pub first-rejected : {r : ℕ} → r ≡ firstRefusal (refusal 14 (not (one s two)) ∷ []) → r ≢ 0 → r ≡ firstRefusal (extractRefusals p s two first second)
   unfolding bothAccepted
-  second-not-accepted e f = sym (behind ∙ refusal-applies 14 (not (bothAccepted p s two)) _ (ap not (and-false-right one other e f)))
+  first-rejected e n =
+      let f = opening-rejected (one s two) e n in
+      f .1 ∙ sym (fourteen (and-false-left (one s two) (other s two) (f .0)))
 
-  module _ (e : one ≡ true) (f : other ≡ true) where
+  pub second-rejected : one s two ≡ true → {r : ℕ} → r ≡ firstRefusal (refusal 14 (not (other s two)) ∷ []) → r ≢ 0 → r ≡ firstRefusal (extractRefusals p s two first second)
+  unfolding bothAccepted
+  second-rejected o e n =
+      let f = opening-rejected (other s two) e n in
+      f .1 ∙ sym (fourteen (and-false-right (one s two) (other s two) o (f .0)))
+
+  module _ (e : one s two ≡ true) (f : other s two ≡ true) where
     accepted : firstRefusal (extractRefusals p s two first second) ≡ firstRefusal (refusal 15 (same (two .firstLeaf) (two .secondLeaf)) ∷ [])
     unfolding bothAccepted
-    accepted = behind ∙ refusal-passes 14 (not (bothAccepted p s two)) _ (ap not (and-true one other e f))
+    accepted = behind ∙ refusal-passes 14 (not (bothAccepted p s two)) _ (ap not (and-true (one s two) (other s two) e f))
 
     pub equal-leaves : same (two .firstLeaf) (two .secondLeaf) ≡ true → _≡_ {A = ℕ} 15 (firstRefusal (extractRefusals p s two first second))
     equal-leaves g = sym (accepted ∙ refusal-applies 15 (same (two .firstLeaf) (two .secondLeaf)) [] g)

@@ -1,14 +1,16 @@
-use mathlib.Core.Path.{sym, ap, _∙_}
-use mathlib.Core.List.{[], _∷_}
-use Prim.Native.Nat.{ℕ}
+use mathlib.Core.Path.{_≡_, sym, _∙_}
+use Prim.Native.Nat.{_<_}
 use borrow.Author.Needs.{needs}
 use Rattle.modular.specs.Goldilocks.{p}
-use Rattle.refusals.specs.Table.{done}
-use Rattle.refusals.proofs.Table.{refused-equations, done-equations}
+use Rattle.refusals.specs.Table.{firstRefusal}
+use Rattle.merkle.specs.Lists.{lowest}
+use Rattle.merkle.specs.Extraction.{collideAt}
+use Rattle.paths.specs.Levels.{levelOr}
+use Rattle.trees.specs.SetTrees.{treeOf}
 use Rattle.trees.proofs.SetTrees as tree-of
-use Rattle.extraction_entries.specs.Extraction.{extractionReply, extractRefusals, extractReply, extractedFirst, extractedSecond}
-use Rattle.extraction_entries.proofs.AcceptedPairs.{extract-numbered}
-use Rattle.extraction_entries.proofs.Extracted.{paired, level-below, level-is, first-is, second-is}
+use Rattle.extraction_entries.specs.Extraction.{Pair, pair, extractionReply, extractRefusals}
+use Rattle.extraction_entries.proofs.AcceptedPairs.{Paired}
+use Rattle.extraction_entries.proofs.Extracted.{paired, level-below, extracted, refused-extract}
 use Rattle.extraction_entries.proofs.extract.Statement.{statement}
 use Rattle.extraction_entries.proofs.extract.Tie as tie
 
@@ -22,41 +24,56 @@ same-length-2 : tie.Need-same-length-2
 same-length-2 c = search needs
 
 returns : tie.Need-returns
-unfolding extractionReply extractReply extractedFirst extractedSecond
-returns c =
-    let e = c .before .refusal-of-extract .ensures in
-    let f = refused-equations (extractRefusals p _ _ _ _) _ _ _ _ e (c .if1 .taken) in
-    (f .0, f .1, refused-equations (extractRefusals p _ _ _ _) _ _ _ _ e (c .if1 .taken) .1)
+unfolding extractionReply
+returns c = refused-extract _ _ _ _ (c .before .refusal-of-extract .ensures) (c .if1 .taken)
+
+-- what is handed in; nothing of it is refused
+abbrev two : tie.Start → Pair
+two s =
+    let a = s .args in
+    pair (a .root .now) (a .place) (a .first .now) (a .first-siblings .now) (a .second .now) (a .second-siblings .now)
+
+abbrev start : tie.Else1 → tie.Start
+start c = c .before .before .before .before .before .before .before .before .before .before .before
+
+none : (c : tie.Else1) → let s = start c in firstRefusal (extractRefusals p (s .args .set) (two s) (s .args .first-row .now) (s .args .second-row .now)) ≡ 0
+none c = sym (c .before .refusal-of-extract .ensures) ∙ c .if1 .left
+
+passed : (c : tie.Else1) → let s = start c in Paired (s .args .set) (two s) (s .args .first-row .now) (s .args .second-row .now)
+passed c = paired _ _ _ _ (none c)
 
 dimensions-requires : tie.Need-dimensions-requires
-dimensions-requires c κs = paired _ _ _ _ (sym (c .before .refusal-of-extract .ensures) ∙ c .if1 .left) .set
+dimensions-requires c κs = passed c .set
 
 lowest-level-requires : tie.Need-lowest-level-requires
 lowest-level-requires c κs =
     let d = c .before .before .before .before in
-    let r = d .before in
-    let A = paired _ _ _ _ (sym (r .before .refusal-of-extract .ensures) ∙ r .if1 .left) in
+    let A = passed (d .before) in
     rw (d .dimensions .ensures) (tree-of.valid-set _ (A .set), A .opening .leaf-long, A .opening .siblings-long, A .other .leaf-long, A .other .siblings-long)
+
+abbrev sized : tie.After-lowest-level → tie.After-dimensions
+sized j = j .before .before .before .before .before
+
+-- the level that was found is the lowest at which the rows collide
+level : (j : tie.After-lowest-level)
+    → let s = start (sized j .before) in let t = two s in let h = s .args .set .height in
+    j .lowest-level .result ≡ levelOr h (lowest (collideAt (treeOf p (s .args .set)) (t .place) (t .firstLeaf) (t .firstSiblings) (t .secondLeaf) (t .secondSiblings)) h)
+level j = rw (sized j .dimensions .ensures) at (j .lowest-level .ensures)
+
+below : (j : tie.After-lowest-level) → j .lowest-level .result < start (sized j .before) .args .set .height
+below j = level-below _ _ _ _ (none (sized j .before)) _ (level j)
 
 copy-row-requires : tie.Need-copy-row-requires
 copy-row-requires c κs =
-    let j = c .before .before .before in
-    let d = c .before .before .before .before .before .before .before .before in
-    let r = d .before in
-    let z = sym (r .before .refusal-of-extract .ensures) ∙ r .if1 .left in
-    let A = paired _ _ _ _ z in
-    let e = rw (d .dimensions .ensures) at (j .lowest-level .ensures) in
-    rw (d .dimensions .ensures) (tree-of.valid-set _ (A .set), A .opening .leaf-long, level-below _ _ _ _ z _ e, A .opening .siblings-long, A .first-long ∙ sym (tree-of.width-is _ (A .set)))
+    let d = sized (c .before .before .before) in
+    let A = passed (d .before) in
+    rw (d .dimensions .ensures) (tree-of.valid-set _ (A .set), A .opening .leaf-long, below (c .before .before .before), A .opening .siblings-long, A .first-long ∙ sym (tree-of.width-is _ (A .set)))
 
 copy-row-requires-2 : tie.Need-copy-row-requires-2
 copy-row-requires-2 c κs =
-    let j = c .before .before .before .before .before .before .before .before .before in
-    let d = c .before .before .before .before .before .before .before .before .before .before .before .before .before .before in
-    let r = d .before in
-    let z = sym (r .before .refusal-of-extract .ensures) ∙ r .if1 .left in
-    let A = paired _ _ _ _ z in
-    let e = rw (d .dimensions .ensures) at (j .lowest-level .ensures) in
-    rw (d .dimensions .ensures) (tree-of.valid-set _ (A .set), A .other .leaf-long, level-below _ _ _ _ z _ e, A .other .siblings-long, A .second-long ∙ sym (tree-of.width-is _ (A .set)))
+    let d = sized (c .before .before .before .before .before .before .before .before .before) in
+    let A = passed (d .before) in
+    rw (d .dimensions .ensures) (tree-of.valid-set _ (A .set), A .other .leaf-long, below (c .before .before .before .before .before .before .before .before .before), A .other .siblings-long, A .second-long ∙ sym (tree-of.width-is _ (A .set)))
 
 same-length-3 : tie.Need-same-length-3
 same-length-3 c = search needs
@@ -64,21 +81,15 @@ same-length-3 c = search needs
 same-length-4 : tie.Need-same-length-4
 same-length-4 c = search needs
 
+abbrev searched : tie.After-slice-known4 → tie.After-lowest-level
+searched c = c .before .before .before .before .before .before .before .before .before .before .before .before
+
 returns-2 : tie.Need-returns-2
-unfolding extractionReply extractReply extractedFirst extractedSecond
+unfolding extractionReply
 returns-2 c =
-    let d = c .before .before .before .before .before .before .before .before .before .before .before .before .before .before .before .before .before in
-    let r = d .before in
-    let z = sym (r .before .refusal-of-extract .ensures) ∙ r .if1 .left in
-    let N = extract-numbered _ _ _ _ in
-    let e = rw (d .dimensions .ensures) at (c .before .before .before .before .before .before .before .before .before .before .before .before .lowest-level .ensures) in
-    let one = rw (d .dimensions .ensures) at (c .before .before .before .before .before .before .before .before .copy-row .ensures) in
-    let other = rw (d .dimensions .ensures) at (c .before .before .copy-row2 .ensures) in
-    let f = done-equations (extractRefusals p _ _ _ _) _ _ _ N z in (
-      ap (λ (n : ℕ). done (n ∷ [])) (level-is _ _ _ _ z _ e) ∙ f .0,
-      one ∙ first-is _ _ _ _ z _ e ∙ f .1,
-      other ∙ second-is _ _ _ _ z _ e ∙ done-equations (extractRefusals p _ _ _ _) _ _ _ N z .1,
-    )
+    extracted _ _ _ _ (none (sized (searched c) .before)) _ (level (searched c))
+    (rw (sized (searched c) .dimensions .ensures) at (c .before .before .before .before .before .before .before .before .copy-row .ensures))
+    (rw (sized (searched c) .dimensions .ensures) at (c .before .before .copy-row2 .ensures))
 
 pub extract-spec : {M : Type 1} → statement M
 extract-spec =

@@ -1,9 +1,13 @@
-use mathlib.Core.Path.{sym, _∙_}
+use mathlib.Core.Path.{_≡_, sym, _∙_}
+use mathlib.Core.Bool.{true, not}
+use mathlib.Core.List.{[], _∷_}
 use borrow.Author.Needs.{needs}
-use Rattle.refusals.proofs.Table.{first-front}
-use Rattle.extraction_entries.specs.Extraction.{extractRefusals}
+use Rattle.modular.specs.Goldilocks.{p}
+use Rattle.refusals.specs.Table.{refusal, firstRefusal}
+use Rattle.refusals.proofs.Table.{front-answers}
+use Rattle.extraction_entries.specs.Extraction.{Pair, pair, pairRefusals, extractRefusals}
 use Rattle.extraction_entries.proofs.AcceptedPairs.{first-passes, second-passes}
-use Rattle.extraction_entries.proofs.Verdicts.{opening-accepted, opening-rejected, first-not-accepted, second-not-accepted, equal-leaves, other-leaves}
+use Rattle.extraction_entries.proofs.Verdicts.{opening-accepted, one, other, first-rejected, second-rejected, equal-leaves, other-leaves}
 use Rattle.extraction_entries.proofs.refusal_of_extract.Statement.{statement}
 use Rattle.extraction_entries.proofs.refusal_of_extract.Tie as tie
 
@@ -12,53 +16,54 @@ refusal-of-pair-requires c κs = search needs
 
 returns : tie.Need-returns
 unfolding extractRefusals
-returns c =
-    let e = c .before .refusal-of-pair .ensures in
-    e ∙ sym (first-front _ _ (λ z. c .if1 .taken (e ∙ z)))
+returns c = front-answers _ _ (c .before .refusal-of-pair .ensures) (c .if1 .taken)
+
+-- what is handed in, and what each answer shows of it
+abbrev two : tie.Start → Pair
+two s =
+    let a = s .args in
+    pair (a .root .now) (a .place) (a .first .now) (a .first-siblings .now) (a .second .now) (a .second-siblings .now)
+
+abbrev start : tie.Else1 → tie.Start
+start c = c .before .before .before .before .before .before .before .before .before
+
+none : (c : tie.Else1) → let s = start c in firstRefusal (pairRefusals p (s .args .set) (two s) (s .args .first-row .now) (s .args .second-row .now)) ≡ 0
+none c = sym (c .before .refusal-of-pair .ensures) ∙ c .if1 .left
 
 refusal-of-opening-requires : tie.Need-refusal-of-opening-requires
 refusal-of-opening-requires c κs = search needs
 
+first-answer : (w : tie.After-refusal-of-opening) → let s = start (w .before) in w .refusal-of-opening .result ≡ firstRefusal (refusal 14 (not (one (s .args .set) (two s))) ∷ [])
+first-answer w = w .refusal-of-opening .ensures (first-passes _ _ _ _ (none (w .before)))
+
 returns-2 : tie.Need-returns-2
-returns-2 c =
-    let r = c .before .before in
-    let z = sym (r .before .refusal-of-pair .ensures) ∙ r .if1 .left in
-    let f = opening-rejected _ (c .before .refusal-of-opening .ensures (first-passes _ _ _ _ z)) (c .if2 .taken) in
-    f .1 ∙ first-not-accepted _ _ _ _ z (f .0)
+returns-2 c = first-rejected _ _ _ _ (none (c .before .before)) (first-answer (c .before)) (c .if2 .taken)
+
+first-accepted : (c : tie.Else2) → let s = start (c .before .before) in one (s .args .set) (two s) ≡ true
+first-accepted c = opening-accepted _ (first-answer (c .before)) (c .if2 .left)
 
 refusal-of-opening-requires-2 : tie.Need-refusal-of-opening-requires-2
 refusal-of-opening-requires-2 c κs = search needs
 
+second-answer : (w : tie.After-refusal-of-opening2) → let s = start (w .before .before .before) in w .refusal-of-opening2 .result ≡ firstRefusal (refusal 14 (not (other (s .args .set) (two s))) ∷ [])
+second-answer w = w .refusal-of-opening2 .ensures (second-passes _ _ _ _ (none (w .before .before .before)))
+
 returns-3 : tie.Need-returns-3
-returns-3 c =
-    let o = c .before .before in
-    let r = o .before .before in
-    let z = sym (r .before .refusal-of-pair .ensures) ∙ r .if1 .left in
-    let f = opening-rejected _ (c .before .refusal-of-opening2 .ensures (second-passes _ _ _ _ z)) (c .if3 .taken) in
-    f .1 ∙ second-not-accepted _ _ _ _ z (opening-accepted _ (o .before .refusal-of-opening .ensures (first-passes _ _ _ _ z)) (o .if2 .left)) (f .0)
+returns-3 c = second-rejected _ _ _ _ (none (c .before .before .before .before)) (first-accepted (c .before .before)) (second-answer (c .before)) (c .if3 .taken)
+
+second-accepted : (c : tie.Else3) → let s = start (c .before .before .before .before) in other (s .args .set) (two s) ≡ true
+second-accepted c = opening-accepted _ (second-answer (c .before)) (c .if3 .left)
 
 same-words-requires : tie.Need-same-words-requires
 same-words-requires c κs = search needs
 
 returns-4 : tie.Need-returns-4
 returns-4 c =
-    let u = c .before .before in
-    let o = u .before .before in
-    let r = o .before .before in
-    let z = sym (r .before .refusal-of-pair .ensures) ∙ r .if1 .left in
-    equal-leaves _ _ _ _ z (opening-accepted _ (o .before .refusal-of-opening .ensures (first-passes _ _ _ _ z)) (o .if2 .left))
-    (opening-accepted _ (u .before .refusal-of-opening2 .ensures (second-passes _ _ _ _ z)) (u .if3 .left))
-    (sym (c .before .same-words .ensures) ∙ c .if4 .taken)
+    equal-leaves _ _ _ _ (none (c .before .before .before .before .before .before)) (first-accepted (c .before .before .before .before)) (second-accepted (c .before .before)) (sym (c .before .same-words .ensures) ∙ c .if4 .taken)
 
 returns-5 : tie.Need-returns-5
 returns-5 c =
-    let u = c .before .before in
-    let o = u .before .before in
-    let r = o .before .before in
-    let z = sym (r .before .refusal-of-pair .ensures) ∙ r .if1 .left in
-    other-leaves _ _ _ _ z (opening-accepted _ (o .before .refusal-of-opening .ensures (first-passes _ _ _ _ z)) (o .if2 .left))
-    (opening-accepted _ (u .before .refusal-of-opening2 .ensures (second-passes _ _ _ _ z)) (u .if3 .left))
-    (sym (c .before .same-words .ensures) ∙ c .if4 .left)
+    other-leaves _ _ _ _ (none (c .before .before .before .before .before .before)) (first-accepted (c .before .before .before .before)) (second-accepted (c .before .before)) (sym (c .before .same-words .ensures) ∙ c .if4 .left)
 
 pub refusal-of-extract-spec : {M : Type 1} → statement M
 refusal-of-extract-spec =
