@@ -8,14 +8,7 @@ use lib.Dec.{lit<}
 use Rattle.modular.specs.Congruence.{_≈⟨_⟩_}
 use Rattle.modular.specs.Goldilocks.{p}
 use Rattle.modular.proofs.Congruence.{eq≈, sym≈, trans≈, multiple≈}
-
--- 2 ^ 64
-abbrev pub W : ℕ
-W = 18446744073709551616
-
--- 2 ^ 32
-abbrev pub H : ℕ
-H = 4294967296
+use Rattle.modular.proofs.ProductHalves.{W, H}
 
 -- 2 ^ 64 modulo p
 abbrev pub ε : ℕ

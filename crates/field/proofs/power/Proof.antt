@@ -9,7 +9,7 @@ use Rattle.modular.specs.Congruence.{_≈⟨_⟩_}
 use Rattle.modular.specs.Goldilocks.{p}
 use Rattle.modular.proofs.Congruence.{eq≈}
 use Rattle.modular.proofs.Powers.{pow-one}
-use Rattle.field.proofs.Bits.{highest-bit, zero-bit, one-bit}
+use Rattle.modular.proofs.Bits.{highest-bit, zero-bit, one-bit}
 use Rattle.field.proofs.power.Statement.{statement}
 use Rattle.field.proofs.power.Tie as tie
 

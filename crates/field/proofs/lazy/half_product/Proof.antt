@@ -1,6 +1,6 @@
 use borrow.Author.Needs.{needs}
 use native.Mathlib.Omega.{arith}
-use Rattle.field.proofs.Halves.{half-product}
+use Rattle.modular.proofs.ProductHalves.{half-product}
 use Rattle.field.proofs.lazy.half_product.Statement.{statement}
 use Rattle.field.proofs.lazy.half_product.Tie as tie
 

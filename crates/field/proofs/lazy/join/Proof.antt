@@ -1,6 +1,7 @@
 use Prim.Native.Nat.{_+_, _*_, _/_, _%_}
 use Rattle.modular.proofs.Congruence.{trans≈}
-use Rattle.field.proofs.Wrapping.{H, ε, joined, half-fits, small-fits, carried≈, uncarried≈}
+use Rattle.modular.proofs.ProductHalves.{H}
+use Rattle.field.proofs.Wrapping.{ε, joined, half-fits, small-fits, carried≈, uncarried≈}
 use borrow.Author.Needs.{needs}
 use Rattle.field.proofs.lazy.join.Statement.{statement}
 use Rattle.field.proofs.lazy.join.Tie as tie

@@ -1,4 +1,4 @@
-use Rattle.field.proofs.Halves.{high-word}
+use Rattle.modular.proofs.ProductHalves.{high-word}
 use borrow.Author.Needs.{needs}
 use Rattle.field.proofs.lazy.product_high.Statement.{statement}
 use Rattle.field.proofs.lazy.product_high.Tie as tie

@@ -1,7 +1,6 @@
 use mathlib.Core.Path.{_≡_, refl, ap, _∙_}
 use Prim.Native.Nat.{ℕ, _+_, _*_, _/_, _%_}
-use Rattle.field.proofs.Wrapping.{W, H}
-use Rattle.field.proofs.Halves.{low-word}
+use Rattle.modular.proofs.ProductHalves.{W, H, low-word}
 use borrow.Author.Needs.{needs}
 use Rattle.field.proofs.lazy.product_low.Statement.{statement}
 use Rattle.field.proofs.lazy.product_low.Tie as tie

@@ -2,7 +2,8 @@ use mathlib.Core.Path.{_≡_, ap, _∙_}
 use mathlib.Core.Logic.{⊎-elim}
 use Prim.Native.Nat.{ℕ, _+_, _*_}
 use Rattle.modular.proofs.Congruence.{eq≈, trans≈}
-use Rattle.field.proofs.Wrapping.{W, added, added-carried}
+use Rattle.modular.proofs.ProductHalves.{W}
+use Rattle.field.proofs.Wrapping.{added, added-carried}
 use borrow.Author.Needs.{needs}
 use Rattle.field.proofs.lazy.product_sum.Statement.{statement}
 use Rattle.field.proofs.lazy.product_sum.Tie as tie

@@ -2,7 +2,8 @@ use mathlib.Core.Logic.{⊎-elim, inl, inr}
 use Prim.Native.Nat.{_*_, _%_, _^_, _<_}
 use native.Mathlib.Omega.{arith}
 use Rattle.modular.proofs.Congruence.{trans≈}
-use Rattle.field.proofs.Wrapping.{H, ε, Rest, reduced, carried≈, uncarried≈}
+use Rattle.modular.proofs.ProductHalves.{H}
+use Rattle.field.proofs.Wrapping.{ε, Rest, reduced, carried≈, uncarried≈}
 use borrow.Author.Needs.{needs}
 use Rattle.field.proofs.lazy.reduce.Statement.{statement}
 use Rattle.field.proofs.lazy.reduce.Tie as tie

@@ -1,4 +1,4 @@
-use Rattle.field.proofs.Seventh.{by-products}
+use Rattle.modular.proofs.Seventh.{by-products}
 use borrow.Author.Needs.{needs}
 use Rattle.field.proofs.lazy.seventh_power.Statement.{statement}
 use Rattle.field.proofs.lazy.seventh_power.Tie as tie

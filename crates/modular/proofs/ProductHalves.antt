@@ -4,8 +4,15 @@ use mathlib.Core.List.{[], _∷_}
 use Prim.Native.Nat.{ℕ, _+_, _*_, _/_, _%_, _≤_}
 use native.Mathlib.Nat.{div-add-mod, mul-le-mul}
 use native.Mathlib.Omega.{arith}
 use Rattle.modular.proofs.Ring.{var, num, _⊕_, _⊗_, exact?, ringℕ}
-use Rattle.field.proofs.Wrapping.{W, H}
+
+-- 2 ^ 64
+abbrev pub W : ℕ
+W = 18446744073709551616
+
+-- 2 ^ 32
+abbrev pub H : ℕ
+H = 4294967296
 
 -- the largest product of two halves
 abbrev pub M : ℕ
