@@ -5,8 +5,8 @@ ghost use Prim.Native.Nat.{_+_, _/_, _%_, _≤_};
 ghost use Rattle.modular.specs.Goldilocks.{p};
 ghost use Rattle.poseidon2.specs.Layers.{external};
 ghost use Rattle.poseidon2.specs.Residues.{residues};
-ghost use Rattle.layers.specs.Blocks.{four, flat};
-ghost use Rattle.layers.specs.Halves.{lows, highs, exactM4, plus, joined, Within};
+ghost use Rattle.blocks.specs.Blocks.{four, flat};
+ghost use Rattle.blocks.specs.Halves.{lows, highs, exactM4, plus, joined, Within};
 use field::lazy::join;
 
 const HALF: u64 = 4294967296;

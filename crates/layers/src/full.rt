@@ -8,7 +8,7 @@ ghost use Rattle.modular.specs.Congruence.{_≈⟨_⟩_};
 ghost use Rattle.poseidon2.specs.Rounds.{addConstants, seventhPowers};
 ghost use Rattle.poseidon2.specs.Residues.{residues};
 ghost use Rattle.poseidon2.specs.Statements.{Words};
-ghost use Rattle.layers.specs.Blocks.{four, flat};
+ghost use Rattle.blocks.specs.Blocks.{four, flat};
 use field::lazy::seventh_power;
 use field::lazy::sum;
 

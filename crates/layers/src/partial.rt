@@ -11,7 +11,7 @@ ghost use Rattle.modular.specs.Goldilocks.{p};
 ghost use Rattle.poseidon2.specs.Layers.{sum, plusMultiples};
 ghost use Rattle.poseidon2.specs.Rounds.{addConstants, partialRound};
 ghost use Rattle.poseidon2.specs.Residues.{residues};
-ghost use Rattle.layers.specs.Blocks.{four, flat};
+ghost use Rattle.blocks.specs.Blocks.{four, flat};
 use field::lazy;
 use std::num::wrapping_add_u64;
 

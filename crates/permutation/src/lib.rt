@@ -13,7 +13,7 @@ ghost use Rattle.poseidon2.specs.Rounds.{permute};
 ghost use Rattle.poseidon2.specs.Compression.{compress};
 ghost use Rattle.poseidon2.specs.Residues.{residues};
 ghost use Rattle.poseidon2.specs.Statements.{Width, Words};
-ghost use Rattle.layers.specs.Blocks.{four, flat};
+ghost use Rattle.blocks.specs.Blocks.{four, flat};
 use field::lazy;
 
 // The words that a block stands for.

@@ -9,7 +9,7 @@ ghost use Rattle.poseidon2.specs.Layers.{external};
 ghost use Rattle.poseidon2.specs.Rounds.{fullRounds, partialRounds, permute};
 ghost use Rattle.poseidon2.specs.Residues.{residues};
 ghost use Rattle.poseidon2.specs.Statements.{Words};
-ghost use Rattle.layers.specs.Blocks.{four, flat};
+ghost use Rattle.blocks.specs.Blocks.{four, flat};
 use field::lazy;
 use layers::external;
 use layers::full;

@@ -1,6 +1,6 @@
 use mathlib.Core.List.{[], _∷_}
 use Rattle.modular.specs.Goldilocks.{p}
-use Rattle.permutation.proofs.Slices.{added-four}
+use Rattle.blocks.proofs.Slices.{added-four}
 use borrow.Author.Needs.{needs}
 use Rattle.permutation.proofs.add_input.Statement.{statement}
 use Rattle.permutation.proofs.add_input.Tie as tie

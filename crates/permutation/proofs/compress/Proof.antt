@@ -2,8 +2,8 @@ use mathlib.Core.Path.{ap, _∙_}
 use lib.ListN.{take, drop}
 use Rattle.modular.specs.Goldilocks.{p}
 use Rattle.poseidon2.specs.Compression.{compress}
-use Rattle.layers.specs.Blocks.{flat}
-use Rattle.permutation.proofs.Slices.{whole, all-of, width-small, whole-fits, compress-code}
+use Rattle.blocks.specs.Blocks.{flat}
+use Rattle.blocks.proofs.Slices.{whole, all-of, width-small, whole-fits, compress-code}
 use borrow.Author.Needs.{needs}
 use Rattle.permutation.proofs.compress.Statement.{statement}
 use Rattle.permutation.proofs.compress.Tie as tie

@@ -1,8 +1,8 @@
 use mathlib.Core.Path.{_∙_}
 use lib.ListN.{take, drop}
 use Rattle.modular.specs.Goldilocks.{p}
-use Rattle.layers.specs.Blocks.{flat}
-use Rattle.permutation.proofs.Slices.{width-small, compress-code, put-compress}
+use Rattle.blocks.specs.Blocks.{flat}
+use Rattle.blocks.proofs.Slices.{width-small, compress-code, put-compress}
 use borrow.Author.Needs.{needs}
 use Rattle.permutation.proofs.compress_at.Statement.{statement}
 use Rattle.permutation.proofs.compress_at.Tie as tie

@@ -5,7 +5,7 @@ use native.Mathlib.Omega.{arith}
 use lib.ListN.{getD, take, drop}
 use Rattle.modular.specs.Goldilocks.{p}
 use Rattle.poseidon2.specs.Rounds.{permute}
-use Rattle.permutation.proofs.Slices.{added-one, added-two, added-three, twelve, words-at}
+use Rattle.blocks.proofs.Slices.{added-one, added-two, added-three, twelve, words-at}
 use borrow.Author.Needs.{needs}
 use Rattle.permutation.proofs.compressed.Statement.{statement}
 use Rattle.permutation.proofs.compressed.Tie as tie

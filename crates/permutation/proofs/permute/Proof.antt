@@ -2,8 +2,8 @@ use mathlib.Core.Path.{ap, _∙_}
 use native.Mathlib.Omega.{arith}
 use Rattle.modular.specs.Goldilocks.{p}
 use Rattle.poseidon2.specs.Rounds.{permute}
-use Rattle.layers.specs.Blocks.{flat}
-use Rattle.permutation.proofs.Slices.{whole, all-of, width-small, whole-fits}
+use Rattle.blocks.specs.Blocks.{flat}
+use Rattle.blocks.proofs.Slices.{whole, all-of, width-small, whole-fits}
 use borrow.Author.Needs.{needs}
 use Rattle.permutation.proofs.permute.Statement.{statement}
 use Rattle.permutation.proofs.permute.Tie as tie

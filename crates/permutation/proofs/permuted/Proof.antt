@@ -2,8 +2,8 @@ use mathlib.Core.Path.{_≡_, _∙_}
 use Prim.Native.Nat.{_*_}
 use native.Mathlib.Omega.{arith}
 use Rattle.poseidon2.specs.Residues.{residues}
-use Rattle.layers.proofs.Lists.{append-eq}
-use Rattle.permutation.proofs.Slices.{twelve, words-at}
+use Rattle.blocks.proofs.Lists.{append-eq}
+use Rattle.blocks.proofs.Slices.{twelve, words-at}
 use borrow.Author.Needs.{needs}
 use Rattle.permutation.proofs.permuted.Statement.{statement}
 use Rattle.permutation.proofs.permuted.Tie as tie

@@ -1,4 +1,4 @@
-use Rattle.permutation.proofs.Slices.{sum-of-words}
+use Rattle.blocks.proofs.Slices.{sum-of-words}
 use borrow.Author.Needs.{needs}
 use Rattle.permutation.proofs.sum_word.Statement.{statement}
 use Rattle.permutation.proofs.sum_word.Tie as tie

@@ -1,5 +1,5 @@
 use Rattle.poseidon2.specs.Residues.{residues}
-use Rattle.layers.proofs.Lists.{four-eq}
+use Rattle.blocks.proofs.Lists.{four-eq}
 use borrow.Author.Needs.{needs}
 use Rattle.permutation.proofs.words.Statement.{statement}
 use Rattle.permutation.proofs.words.Tie as tie

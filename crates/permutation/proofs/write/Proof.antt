@@ -6,7 +6,7 @@ use native.Mathlib.Omega.{arith}
 use lib.ListN.{length, set, getD, length-set}
 use lib.Seq.{paste, paste-zero, paste-suc}
 use borrow.Author.Needs.{needs}
-use Rattle.layers.specs.Blocks.{flat}
+use Rattle.blocks.specs.Blocks.{flat}
 use Rattle.permutation.proofs.write.Statement.{statement}
 use Rattle.permutation.proofs.write.Tie as tie
 

@@ -1,4 +1,4 @@
-use Rattle.layers.proofs.Lists.{four-eq}
+use Rattle.blocks.proofs.Lists.{four-eq}
 use borrow.Author.Needs.{needs}
 use Rattle.layers.proofs.external.add_sum.Statement.{statement}
 use Rattle.layers.proofs.external.add_sum.Tie as tie

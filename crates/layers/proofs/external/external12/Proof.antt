@@ -1,6 +1,6 @@
 use mathlib.Core.List.{[]}
 use lib.ListN.{getD}
-use Rattle.layers.proofs.Halves.{m4-stands, external-three}
+use Rattle.blocks.proofs.Halves.{m4-stands, external-three}
 use borrow.Author.Needs.{needs}
 use Rattle.layers.proofs.external.external12.Statement.{statement}
 use Rattle.layers.proofs.external.external12.Tie as tie

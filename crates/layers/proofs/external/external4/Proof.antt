@@ -1,4 +1,4 @@
-use Rattle.layers.proofs.Halves.{m4-stands, external-one}
+use Rattle.blocks.proofs.Halves.{m4-stands, external-one}
 use borrow.Author.Needs.{needs}
 use Rattle.layers.proofs.external.external4.Statement.{statement}
 use Rattle.layers.proofs.external.external4.Tie as tie

@@ -1,6 +1,6 @@
 use mathlib.Core.List.{[]}
 use lib.ListN.{getD}
-use Rattle.layers.proofs.Halves.{m4-stands, external-two}
+use Rattle.blocks.proofs.Halves.{m4-stands, external-two}
 use borrow.Author.Needs.{needs}
 use Rattle.layers.proofs.external.external8.Statement.{statement}
 use Rattle.layers.proofs.external.external8.Tie as tie

@@ -1,4 +1,4 @@
-use Rattle.layers.proofs.Lists.{four-residues}
+use Rattle.blocks.proofs.Lists.{four-residues}
 use borrow.Author.Needs.{needs}
 use Rattle.layers.proofs.external.join_block.Statement.{statement}
 use Rattle.layers.proofs.external.join_block.Tie as tie

@@ -1,4 +1,4 @@
-use Rattle.layers.proofs.Halves.{m4-sums}
+use Rattle.blocks.proofs.Halves.{m4-sums}
 use borrow.Author.Needs.{needs}
 use Rattle.layers.proofs.external.m4.Statement.{statement}
 use Rattle.layers.proofs.external.m4.Tie as tie

@@ -3,7 +3,7 @@ use mathlib.Core.List.{List}
 use Prim.Native.Nat.{ℕ}
 use Rattle.modular.specs.Goldilocks.{p}
 use Rattle.poseidon2.specs.Residues.{residues}
-use Rattle.layers.specs.Halves.{joined}
+use Rattle.blocks.specs.Halves.{joined}
 use borrow.Author.Needs.{needs}
 use Rattle.layers.proofs.external.mixed_block.Statement.{statement}
 use Rattle.layers.proofs.external.mixed_block.Tie as tie

@@ -1,4 +1,4 @@
-use Rattle.layers.proofs.Lists.{four-eq}
+use Rattle.blocks.proofs.Lists.{four-eq}
 use borrow.Author.Needs.{needs}
 use Rattle.layers.proofs.external.sum_blocks.Statement.{statement}
 use Rattle.layers.proofs.external.sum_blocks.Tie as tie

@@ -1,4 +1,4 @@
-use Rattle.layers.proofs.Lists.{raised}
+use Rattle.blocks.proofs.Lists.{raised}
 use borrow.Author.Needs.{needs}
 use Rattle.layers.proofs.full.raise.Statement.{statement}
 use Rattle.layers.proofs.full.raise.Tie as tie

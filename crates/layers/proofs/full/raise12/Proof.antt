@@ -4,7 +4,7 @@ use native.Mathlib.Omega.{arith}
 use lib.Dec.{lit<}
 use lib.ListN.{getD}
 use Rattle.modular.specs.Goldilocks.{p}
-use Rattle.layers.proofs.Lists.{fewer-words, raised-three}
+use Rattle.blocks.proofs.Lists.{fewer-words, raised-three}
 use borrow.Author.Needs.{needs}
 use Rattle.layers.proofs.full.raise12.Statement.{statement}
 use Rattle.layers.proofs.full.raise12.Tie as tie

@@ -1,7 +1,7 @@
 use mathlib.Core.List.{[], _∷_}
 use Prim.Native.Nat.{_+_}
 use native.Mathlib.Omega.{arith}
-use Rattle.layers.proofs.Lists.{first-word, raised-four}
+use Rattle.blocks.proofs.Lists.{first-word, raised-four}
 use borrow.Author.Needs.{needs}
 use Rattle.layers.proofs.full.raise4.Statement.{statement}
 use Rattle.layers.proofs.full.raise4.Tie as tie

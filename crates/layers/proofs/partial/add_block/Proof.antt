@@ -1,5 +1,5 @@
 use Prim.Native.Nat.{_+_, _*_}
-use Rattle.layers.proofs.Carries.{limit, block-sum, block-carries, at-most-one, at-most-two, at-most-three}
+use Rattle.blocks.proofs.Carries.{limit, block-sum, block-carries, at-most-one, at-most-two, at-most-three}
 use borrow.Author.Needs.{needs}
 use Rattle.layers.proofs.partial.add_block.Statement.{statement}
 use Rattle.layers.proofs.partial.add_block.Tie as tie

@@ -1,5 +1,5 @@
 use native.Mathlib.Omega.{arith}
-use Rattle.layers.proofs.Carries.{carried, carry-small}
+use Rattle.blocks.proofs.Carries.{carried, carry-small}
 use borrow.Author.Needs.{needs}
 use Rattle.layers.proofs.partial.add_word.Statement.{statement}
 use Rattle.layers.proofs.partial.add_word.Tie as tie

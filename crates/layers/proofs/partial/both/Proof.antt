@@ -2,7 +2,7 @@ use mathlib.Core.Path.{ap, _∙_}
 use Prim.Native.Nat.{ℕ, _+_, _%_}
 use native.Mathlib.Omega.{arith}
 use Rattle.modular.specs.Goldilocks.{p}
-use Rattle.layers.proofs.Carries.{carried, carry-small, both-small, two-sums}
+use Rattle.blocks.proofs.Carries.{carried, carry-small, both-small, two-sums}
 use borrow.Author.Needs.{needs}
 use Rattle.layers.proofs.partial.both.Statement.{statement}
 use Rattle.layers.proofs.partial.both.Tie as tie

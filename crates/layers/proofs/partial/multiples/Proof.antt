@@ -1,5 +1,5 @@
 use mathlib.Core.List.{[], _∷_}
-use Rattle.layers.proofs.Round.{multiples-four}
+use Rattle.blocks.proofs.Round.{multiples-four}
 use borrow.Author.Needs.{needs}
 use Rattle.layers.proofs.partial.multiples.Statement.{statement}
 use Rattle.layers.proofs.partial.multiples.Tie as tie

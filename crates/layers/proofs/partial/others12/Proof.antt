@@ -2,8 +2,8 @@ use mathlib.Core.Path.{ap, _∙_}
 use Prim.Native.Nat.{ℕ, _+_, _*_, _%_}
 use lib.Dec.{lit≤}
 use Rattle.modular.specs.Goldilocks.{p}
-use Rattle.layers.specs.Blocks.{four}
-use Rattle.layers.proofs.Carries.{limit, chains, two-and-block, one-and-block, few, more}
+use Rattle.blocks.specs.Blocks.{four}
+use Rattle.blocks.proofs.Carries.{limit, chains, two-and-block, one-and-block, few, more}
 use borrow.Author.Needs.{needs}
 use Rattle.layers.proofs.partial.others12.Statement.{statement}
 use Rattle.layers.proofs.partial.others12.Tie as tie

@@ -4,7 +4,7 @@ use Prim.Native.Nat.{ℕ, _+_, _*_, _%_}
 use lib.Dec.{lit≤}
 use lib.ListN.{getD}
 use Rattle.modular.specs.Goldilocks.{p}
-use Rattle.layers.proofs.Carries.{limit, chains, two-alone, one-alone, few}
+use Rattle.blocks.proofs.Carries.{limit, chains, two-alone, one-alone, few}
 use borrow.Author.Needs.{needs}
 use Rattle.layers.proofs.partial.others4.Statement.{statement}
 use Rattle.layers.proofs.partial.others4.Tie as tie

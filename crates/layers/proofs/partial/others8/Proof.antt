@@ -3,8 +3,8 @@ use mathlib.Core.List.{[]}
 use Prim.Native.Nat.{ℕ, _+_, _*_, _%_}
 use lib.Dec.{lit≤}
 use Rattle.modular.specs.Goldilocks.{p}
-use Rattle.layers.specs.Blocks.{four}
-use Rattle.layers.proofs.Carries.{limit, chains, two-alone, one-and-block, few}
+use Rattle.blocks.specs.Blocks.{four}
+use Rattle.blocks.proofs.Carries.{limit, chains, two-alone, one-and-block, few}
 use borrow.Author.Needs.{needs}
 use Rattle.layers.proofs.partial.others8.Statement.{statement}
 use Rattle.layers.proofs.partial.others8.Tie as tie

@@ -4,9 +4,9 @@ use lib.ListN.{getD}
 use Rattle.modular.specs.Goldilocks.{p}
 use Rattle.poseidon2.specs.Residues.{residues}
 use Rattle.poseidon2.proofs.Places.{plusMultiples-at}
-use Rattle.layers.specs.Blocks.{four}
-use Rattle.layers.proofs.Lists.{append-eq}
-use Rattle.layers.proofs.Round.{partial-blocks}
+use Rattle.blocks.specs.Blocks.{four}
+use Rattle.blocks.proofs.Lists.{append-eq}
+use Rattle.blocks.proofs.Round.{partial-blocks}
 use borrow.Author.Needs.{needs}
 use Rattle.layers.proofs.partial.partial12.Statement.{statement}
 use Rattle.layers.proofs.partial.partial12.Tie as tie

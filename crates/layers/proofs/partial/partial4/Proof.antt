@@ -1,7 +1,7 @@
 use mathlib.Core.Path.{refl}
 use mathlib.Core.List.{[]}
 use Rattle.poseidon2.specs.Residues.{residues}
-use Rattle.layers.proofs.Round.{partial-blocks}
+use Rattle.blocks.proofs.Round.{partial-blocks}
 use borrow.Author.Needs.{needs}
 use Rattle.layers.proofs.partial.partial4.Statement.{statement}
 use Rattle.layers.proofs.partial.partial4.Tie as tie

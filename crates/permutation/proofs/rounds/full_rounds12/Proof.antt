@@ -4,9 +4,9 @@ use native.Mathlib.Omega.{arith}
 use lib.Dec.{lit<}
 use borrow.Author.Needs.{needs}
 use Rattle.modular.specs.Goldilocks.{p}
-use Rattle.layers.specs.Blocks.{flat}
-use Rattle.layers.proofs.Lists.{fewer-words}
-use Rattle.permutation.proofs.Turns.{Turning, full-none, full-turn, full-end}
+use Rattle.blocks.specs.Blocks.{flat}
+use Rattle.blocks.proofs.Lists.{fewer-words}
+use Rattle.blocks.proofs.Turns.{Turning, full-none, full-turn, full-end}
 use Rattle.permutation.proofs.rounds.full_rounds12.Statement.{statement}
 use Rattle.permutation.proofs.rounds.full_rounds12.Tie as tie
 

@@ -1,4 +1,4 @@
-use Rattle.permutation.proofs.Turns.{four-from}
+use Rattle.blocks.proofs.Turns.{four-from}
 use borrow.Author.Needs.{needs}
 use Rattle.permutation.proofs.rounds.load.Statement.{statement}
 use Rattle.permutation.proofs.rounds.load.Tie as tie

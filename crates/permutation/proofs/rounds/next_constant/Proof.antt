@@ -3,8 +3,8 @@ use Prim.Native.Nat.{_+_}
 use native.Mathlib.Omega.{arith}
 use lib.Dec.{lit<}
 use Rattle.modular.specs.Goldilocks.{p}
-use Rattle.layers.proofs.Lists.{first-word}
-use Rattle.permutation.proofs.Turns.{constant-at, constant-out}
+use Rattle.blocks.proofs.Lists.{first-word}
+use Rattle.blocks.proofs.Turns.{constant-at, constant-out}
 use borrow.Author.Needs.{needs}
 use Rattle.permutation.proofs.rounds.next_constant.Statement.{statement}
 use Rattle.permutation.proofs.rounds.next_constant.Tie as tie

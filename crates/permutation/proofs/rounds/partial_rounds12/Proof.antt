@@ -3,8 +3,8 @@ use native.Mathlib.Omega.{arith}
 use lib.ListN.{take}
 use borrow.Author.Needs.{needs}
 use Rattle.modular.specs.Goldilocks.{p}
-use Rattle.layers.specs.Blocks.{flat}
-use Rattle.permutation.proofs.Turns.{Going, partial-none, partial-turn, partial-end}
+use Rattle.blocks.specs.Blocks.{flat}
+use Rattle.blocks.proofs.Turns.{Going, partial-none, partial-turn, partial-end}
 use Rattle.permutation.proofs.rounds.partial_rounds12.Statement.{statement}
 use Rattle.permutation.proofs.rounds.partial_rounds12.Tie as tie
 

@@ -3,8 +3,8 @@ use native.Mathlib.Omega.{arith}
 use lib.ListN.{take}
 use borrow.Author.Needs.{needs}
 use Rattle.modular.specs.Goldilocks.{p}
-use Rattle.layers.specs.Blocks.{four}
-use Rattle.permutation.proofs.Turns.{Going, partial-none, partial-turn, partial-end}
+use Rattle.blocks.specs.Blocks.{four}
+use Rattle.blocks.proofs.Turns.{Going, partial-none, partial-turn, partial-end}
 use Rattle.permutation.proofs.rounds.partial_rounds4.Statement.{statement}
 use Rattle.permutation.proofs.rounds.partial_rounds4.Tie as tie
 

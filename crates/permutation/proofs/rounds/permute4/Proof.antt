@@ -4,9 +4,9 @@ use native.Mathlib.Omega.{arith}
 use lib.Dec.{lit<}
 use Rattle.modular.specs.Goldilocks.{p}
 use Rattle.poseidon2.specs.Rounds.{permute}
-use Rattle.layers.specs.Blocks.{four}
-use Rattle.layers.proofs.Lists.{fewer-words}
-use Rattle.permutation.proofs.Turns.{permutation-code}
+use Rattle.blocks.specs.Blocks.{four}
+use Rattle.blocks.proofs.Lists.{fewer-words}
+use Rattle.blocks.proofs.Turns.{permutation-code}
 use borrow.Author.Needs.{needs}
 use Rattle.permutation.proofs.rounds.permute4.Statement.{statement}
 use Rattle.permutation.proofs.rounds.permute4.Tie as tie

@@ -5,9 +5,9 @@ use native.Mathlib.Omega.{arith}
 use lib.Dec.{lit<}
 use Rattle.modular.specs.Goldilocks.{p}
 use Rattle.poseidon2.specs.Rounds.{permute}
-use Rattle.layers.specs.Blocks.{flat}
-use Rattle.layers.proofs.Lists.{fewer-words}
-use Rattle.permutation.proofs.Turns.{permutation-code, two-from}
+use Rattle.blocks.specs.Blocks.{flat}
+use Rattle.blocks.proofs.Lists.{fewer-words}
+use Rattle.blocks.proofs.Turns.{permutation-code, two-from}
 use borrow.Author.Needs.{needs}
 use Rattle.permutation.proofs.rounds.permute8.Statement.{statement}
 use Rattle.permutation.proofs.rounds.permute8.Tie as tie

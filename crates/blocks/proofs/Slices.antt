@@ -15,8 +15,8 @@ use Rattle.poseidon2.specs.Rounds.{permute}
 use Rattle.poseidon2.specs.Compression.{compress}
 use Rattle.poseidon2.specs.Statements.{Width, Words}
 use Rattle.poseidon2.proofs.Places.{add-at, addLists-take}
-use Rattle.layers.specs.Blocks.{four}
-use Rattle.layers.proofs.Lists.{four-eq, append-eq, addLists-append}
+use Rattle.blocks.specs.Blocks.{four}
+use Rattle.blocks.proofs.Lists.{four-eq, append-eq, addLists-append}
 
 pub sum-of-words : {p : ℕ} (x y : ℕ) {b s r : ℕ} → b ≡ x % p → s ≈⟨ p ⟩ y + b → r ≡ s % p → r ≡ add p (x % p) y
 unfolding add

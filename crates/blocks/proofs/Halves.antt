@@ -11,9 +11,9 @@ use Rattle.modular.proofs.Congruence.{refl≈, eq≈, sym≈, trans≈, mod≈,
 use Rattle.modular.proofs.Ring.{var, num, _⊕_, _⊗_, exact?, ringℕ}
 use Rattle.poseidon2.specs.Layers.{addLists, dot, rowsTimes, m4Rows, m4, blocks, joinBlocks, sumBlocks, addToEach, mixed, external}
 use Rattle.poseidon2.specs.Residues.{residues}
-use Rattle.layers.specs.Blocks.{four}
-use Rattle.layers.specs.Halves.{half, lows, highs, exactM4, plus, joined}
-use Rattle.layers.proofs.Lists.{four-eq, append-eq}
+use Rattle.blocks.specs.Blocks.{four}
+use Rattle.blocks.specs.Halves.{half, lows, highs, exactM4, plus, joined}
+use Rattle.blocks.proofs.Lists.{four-eq, append-eq}
 
 -- M4 of four numbers, written out
 pub exactM4-four : (a b c d : ℕ) → exactM4 (a ∷ b ∷ c ∷ d ∷ [])

@@ -6,7 +6,7 @@ use Prim.Native.Nat.{ℕ, _+_, _*_, _%_, _≤_, _<_}
 use native.Mathlib.Omega.{arith}
 use lib.ListN.{getD}
 use Rattle.poseidon2.specs.Layers.{sum}
-use Rattle.layers.specs.Blocks.{four}
+use Rattle.blocks.specs.Blocks.{four}
 
 -- 2 ^ 64
 abbrev pub limit : ℕ

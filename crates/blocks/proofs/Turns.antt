@@ -18,8 +18,8 @@ use Rattle.poseidon2.proofs.Internal.{internal-residues}
 use Rattle.poseidon2.proofs.Residues.{external-residues, fullRound-residues, partialRound-residues}
 use Rattle.poseidon2.proofs.Places.{addLists-take, fullRounds-at}
 use Rattle.poseidon2.proofs.Rounds.{permute-at}
-use Rattle.layers.specs.Blocks.{four}
-use Rattle.layers.proofs.Lists.{append-eq}
+use Rattle.blocks.specs.Blocks.{four}
+use Rattle.blocks.proofs.Lists.{append-eq}
 
 -- ---- full rounds
 

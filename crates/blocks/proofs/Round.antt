@@ -14,8 +14,8 @@ use Rattle.poseidon2.specs.Rounds.{addConstants, raiseFirst, partialRound}
 use Rattle.poseidon2.specs.Residues.{residues}
 use Rattle.poseidon2.proofs.Words.{cons-eq}
 use Rattle.poseidon2.proofs.Places.{plusMultiplesAt, plusMultiples-at, internal-at}
-use Rattle.layers.specs.Blocks.{four}
-use Rattle.layers.proofs.Lists.{four-eq}
+use Rattle.blocks.specs.Blocks.{four}
+use Rattle.blocks.proofs.Lists.{four-eq}
 
 first-law : (d w s c : ℕ) → s + c + (d + 1) * w ≡ w + s + d * w + c
 unfolding exact?

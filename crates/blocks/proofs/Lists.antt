@@ -15,7 +15,7 @@ use Rattle.poseidon2.specs.Residues.{residues}
 use Rattle.poseidon2.specs.Statements.{Words}
 use Rattle.poseidon2.proofs.Words.{cons-eq, words-take}
 use Rattle.poseidon2.proofs.Places.{add-at}
-use Rattle.layers.specs.Blocks.{four}
+use Rattle.blocks.specs.Blocks.{four}
 
 pub four-eq : {a b c d e f g h : ℕ} → a ≡ e → b ≡ f → c ≡ g → d ≡ h → a ∷ b ∷ c ∷ d ∷ [] ≡ e ∷ f ∷ g ∷ h ∷ []
 four-eq i j k l = cc
