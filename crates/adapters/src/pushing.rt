@@ -2,7 +2,6 @@
 ghost use mathlib.Core.Path.{_≡_};
 ghost use Prim.Native.Nat.{_≤_, _/_, min};
 ghost use lib.ListN.{length, take};
-ghost use Rattle.modular.specs.Goldilocks.{p};
 ghost use Rattle.change_entries.specs.Replacement.{changedReply};
 ghost use Rattle.push_entries.specs.Pushes.{pushReply, pushed};
 ghost use Rattle.adapters.specs.Listed.{firstSixteen};
@@ -18,8 +17,8 @@ pub fn push_first(
     count: usize,
 ) -> Changed
     requires { ⌜ count ≤ 16 ⌝ }
-    ensures { λ r. ⌜ (changedReply r ≡ pushReply p set (now (store .entry)) (take count records))
-        × (now (store .exit) ≡ pushed p set (now (store .entry)) (take count records)) ⌝ }
+    ensures { λ r. ⌜ (changedReply r ≡ pushReply set (now (store .entry)) (take count records))
+        × (now (store .exit) ≡ pushed set (now (store .entry)) (take count records)) ⌝ }
 {
     push_entries::push(set, store, &records[..count])
 }
@@ -36,8 +35,8 @@ fn record_count(numbers: &[u64]) -> usize
 
 // A push of the records of a list with seven numbers for each, at most sixteen.
 pub fn push_list(set: ParameterSet, store: &mut [u64], numbers: &[u64]) -> Changed
-    ensures { λ r. ⌜ (changedReply r ≡ pushReply p set (now (store .entry)) (firstSixteen (now (numbers .entry))))
-        × (now (store .exit) ≡ pushed p set (now (store .entry)) (firstSixteen (now (numbers .entry)))) ⌝ }
+    ensures { λ r. ⌜ (changedReply r ≡ pushReply set (now (store .entry)) (firstSixteen (now (numbers .entry))))
+        × (now (store .exit) ≡ pushed set (now (store .entry)) (firstSixteen (now (numbers .entry)))) ⌝ }
 {
     let count = record_count(numbers);
     let blank = Record {

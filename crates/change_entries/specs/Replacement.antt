@@ -4,7 +4,7 @@ use mathlib.Core.List.{List, [], _∷_, _++_}
 use Prim.Native.Nat.{ℕ, suc}
 use Rattle.refusals.specs.Table.{Refusal, refusal, notWords, Reply, refused, done, reply, after}
 use Rattle.parameters.specs.declared.ParameterSet.{ParameterSet}
-use Rattle.parameters.specs.ParameterSet.{setRefusals}
+use Rattle.parameters.specs.ParameterSet.{primeOf, setRefusals}
 use Rattle.merkle.specs.Openings.{opening}
 use Rattle.merkle.specs.Replacement.{Counted, replace}
 use Rattle.trees.specs.SetTrees.{treeOf, storeWords}
@@ -18,20 +18,20 @@ changedReply (Compressions n) = done (n ∷ [])
 changedReply (Refused n) = refused n
 
 -- Refusal 12 tests the leaf, and the siblings in the store that a replacement reads.
-unfoldable pub replaceRefusals : ℕ → ParameterSet → List ℕ → ℕ → List ℕ → List Refusal
-replaceRefusals p s store q leaf =
-    setRefusals p s
-    ++ (refusal 10 (not (has store (storeWords p s) && has leaf (s .«node_size»)))
-    ∷ noPlace p s q
-    ∷ notWords p (leaf ++ opening (treeOf p s) (s .height) q store) ∷ [])
+unfoldable pub replaceRefusals : ParameterSet → List ℕ → ℕ → List ℕ → List Refusal
+replaceRefusals s store q leaf =
+    setRefusals s
+    ++ (refusal 10 (not (has store (storeWords s) && has leaf (s .«node_size»)))
+    ∷ noPlace s q
+    ∷ notWords (primeOf s) (leaf ++ opening (treeOf s) (s .height) q store) ∷ [])
 
 -- The leaf at its place and the h nodes above it, with the count (Rules 5.2).
-abbrev pub replacement : ℕ → ParameterSet → List ℕ → ℕ → List ℕ → Counted
-replacement p s store q leaf = replace (treeOf p s) (s .height) q leaf store
+abbrev pub replacement : ParameterSet → List ℕ → ℕ → List ℕ → Counted
+replacement s store q leaf = replace (treeOf s) (s .height) q leaf store
 
 -- The answer is the count at the end.
-unfoldable pub replaceReply : ℕ → ParameterSet → List ℕ → ℕ → List ℕ → Reply
-replaceReply p s store q leaf = reply (replaceRefusals p s store q leaf) (replacement p s store q leaf .made ∷ [])
+unfoldable pub replaceReply : ParameterSet → List ℕ → ℕ → List ℕ → Reply
+replaceReply s store q leaf = reply (replaceRefusals s store q leaf) (replacement s store q leaf .made ∷ [])
 
-unfoldable pub replaced : ℕ → ParameterSet → List ℕ → ℕ → List ℕ → List ℕ
-replaced p s store q leaf = after (replaceReply p s store q leaf) store (replacement p s store q leaf .store)
+unfoldable pub replaced : ParameterSet → List ℕ → ℕ → List ℕ → List ℕ
+replaced s store q leaf = after (replaceReply s store q leaf) store (replacement s store q leaf .store)

@@ -6,7 +6,6 @@ use mathlib.Core.List.{List, [], _∷_}
 use mathlib.Core.Option.{Option, none, some}
 use Prim.Native.Nat.{ℕ, _<_}
 use borrow.Author.Tests.{not-false}
-use Rattle.modular.specs.Goldilocks.{p}
 use Rattle.modular.proofs.Words.{left-true, right-true}
 use Rattle.refusals.specs.Table.{refusal, firstRefusal, refused, done}
 use Rattle.refusals.proofs.Table.{first-none, refusal-none, reply-done, written-after, refused-equations}
@@ -28,68 +27,68 @@ level-or : ℕ → Option Collision → ℕ
 level-or d none = d
 level-or d (some c) = c .level
 
-module _ (s : ParameterSet) (two : Pair) (first second : List ℕ) (z : firstRefusal (extractRefusals p s two first second) ≡ 0) where
+module _ (s : ParameterSet) (two : Pair) (first second : List ℕ) (z : firstRefusal (extractRefusals s two first second) ≡ 0) where
   open Pair two using (root as top, place as q, firstLeaf as a, firstSiblings as xs, secondLeaf as b, secondSiblings as ys)
 
-  pairs : (firstRefusal (pairRefusals p s two first second) ≡ 0) × (firstRefusal (refusal 14 (not (bothAccepted p s two)) ∷ refusal 15 (same a b) ∷ []) ≡ 0)
+  pairs : (firstRefusal (pairRefusals s two first second) ≡ 0) × (firstRefusal (refusal 14 (not (bothAccepted s two)) ∷ refusal 15 (same a b) ∷ []) ≡ 0)
   unfolding extractRefusals
-  pairs = first-none (pairRefusals p s two first second) (refusal 14 (not (bothAccepted p s two)) ∷ refusal 15 (same a b) ∷ []) (pair-numbered s two first second) z
+  pairs = first-none (pairRefusals s two first second) (refusal 14 (not (bothAccepted s two)) ∷ refusal 15 (same a b) ∷ []) (pair-numbered s two first second) z
 
   pub paired : Paired s two first second
   paired = pair-passed s two first second (pairs .0)
 
-  accepted : (not (bothAccepted p s two) ≡ false) × (firstRefusal (refusal 15 (same a b) ∷ []) ≡ 0)
-  accepted = refusal-none 13 (not (bothAccepted p s two)) (refusal 15 (same a b) ∷ []) (pairs .1)
+  accepted : (not (bothAccepted s two) ≡ false) × (firstRefusal (refusal 15 (same a b) ∷ []) ≡ 0)
+  accepted = refusal-none 13 (not (bothAccepted s two)) (refusal 15 (same a b) ∷ []) (pairs .1)
 
-  pub both : bothAccepted p s two ≡ true
-  both = not-false (bothAccepted p s two) (accepted .0)
+  pub both : bothAccepted s two ≡ true
+  both = not-false (bothAccepted s two) (accepted .0)
 
   pub differ : a ≢ b
   differ = same-false a b (refusal-none 14 (same a b) [] (accepted .1) .0)
 
-  pub found : Extracts (treeOf p s) (s .height) q a xs b ys
+  pub found : Extracts (treeOf s) (s .height) q a xs b ys
   unfolding bothAccepted
   found =
       let L = laws s (paired .set) in
       L .binding (s .height) q a xs b ys (paired .opening .leaf-long) (paired .other .leaf-long) (paired .opening .siblings-long) (paired .other .siblings-long) differ
       (L .accepting (s .height) top q a xs .0 (left-true (one s two) (other s two) both) ∙ sym (L .accepting (s .height) top q b ys .0 (right-true (one s two) (other s two) both)))
 
-  pub collided : collision p s two ≡ some (found .collision)
+  pub collided : collision s two ≡ some (found .collision)
   unfolding collision
   collided = found .given
 
-  pub replies : extractReply p s two first second ≡ done (levelOf (collision p s two) ∷ [])
+  pub replies : extractReply s two first second ≡ done (levelOf (collision s two) ∷ [])
   unfolding extractReply
-  replies = reply-done (extractRefusals p s two first second) (levelOf (collision p s two) ∷ []) (extract-numbered s two first second) z
+  replies = reply-done (extractRefusals s two first second) (levelOf (collision s two) ∷ []) (extract-numbered s two first second) z
 
-  module _ (r : ℕ) (e : r ≡ levelOr (s .height) (lowest (collideAt (treeOf p s) q a xs b ys) (s .height))) where
-    searched : (o : Option ℕ) → levelOr (s .height) o ≡ level-or (s .height) (withRows (treeOf p s) q a xs b ys o)
+  module _ (r : ℕ) (e : r ≡ levelOr (s .height) (lowest (collideAt (treeOf s) q a xs b ys) (s .height))) where
+    searched : (o : Option ℕ) → levelOr (s .height) o ≡ level-or (s .height) (withRows (treeOf s) q a xs b ys o)
     unfolding levelOr level-or withRows
     searched none = refl
     searched (some j) = refl
 
     is : r ≡ found .collision .level
     unfolding extract level-or
-    is = e ∙ searched (lowest (collideAt (treeOf p s) q a xs b ys) (s .height)) ∙ ap (level-or (s .height)) (found .given)
+    is = e ∙ searched (lowest (collideAt (treeOf s) q a xs b ys) (s .height)) ∙ ap (level-or (s .height)) (found .given)
 
     pub level-below : r < s .height
     level-below = rw is (found .lowestOne .below)
 
     -- the reply and both buffers, of what the level and the rows were found to be
-    pub extracted : {row row2 : List ℕ} → row ≡ pathRow (treeOf p s) q a xs r → row2 ≡ pathRow (treeOf p s) q b ys r
-        → (done (r ∷ []) ≡ extractReply p s two first second) × (row ≡ extractedFirst p s two first second) × (row2 ≡ extractedSecond p s two first second)
+    pub extracted : {row row2 : List ℕ} → row ≡ pathRow (treeOf s) q a xs r → row2 ≡ pathRow (treeOf s) q b ys r
+        → (done (r ∷ []) ≡ extractReply s two first second) × (row ≡ extractedFirst s two first second) × (row2 ≡ extractedSecond s two first second)
     unfolding levelOf firstOf secondOf extractedFirst extractedSecond
     extracted f g = (
       ap (λ (n : ℕ). done (n ∷ [])) (is ∙ sym (ap levelOf collided)) ∙ sym replies,
-      f ∙ ap (pathRow (treeOf p s) q a xs) is ∙ sym (ap (λ (o : Option Collision). firstOf o first) collided ∙ found .lowestOne .first) ∙ written-after first (firstOf (collision p s two) first) replies,
-      g ∙ ap (pathRow (treeOf p s) q b ys) is ∙ sym (ap (λ (o : Option Collision). secondOf o second) collided ∙ found .lowestOne .second) ∙ written-after second (secondOf (collision p s two) second) replies,
+      f ∙ ap (pathRow (treeOf s) q a xs) is ∙ sym (ap (λ (o : Option Collision). firstOf o first) collided ∙ found .lowestOne .first) ∙ written-after first (firstOf (collision s two) first) replies,
+      g ∙ ap (pathRow (treeOf s) q b ys) is ∙ sym (ap (λ (o : Option Collision). secondOf o second) collided ∙ found .lowestOne .second) ∙ written-after second (secondOf (collision s two) second) replies,
     )
 
 -- and where something is refused
-pub refused-extract : (s : ParameterSet) (two : Pair) (first second : List ℕ) {n : ℕ} → n ≡ firstRefusal (extractRefusals p s two first second) → n ≢ 0
-    → (refused n ≡ extractReply p s two first second) × (first ≡ extractedFirst p s two first second) × (second ≡ extractedSecond p s two first second)
+pub refused-extract : (s : ParameterSet) (two : Pair) (first second : List ℕ) {n : ℕ} → n ≡ firstRefusal (extractRefusals s two first second) → n ≢ 0
+    → (refused n ≡ extractReply s two first second) × (first ≡ extractedFirst s two first second) × (second ≡ extractedSecond s two first second)
 unfolding extractReply extractedFirst extractedSecond
 refused-extract s two first second e o =
-    let level = levelOf (collision p s two) ∷ [] in
-    let f = refused-equations (extractRefusals p s two first second) level first (firstOf (collision p s two) first) _ e o in
-    (f .0, f .1, refused-equations (extractRefusals p s two first second) level second (secondOf (collision p s two) second) _ e o .1)
+    let level = levelOf (collision s two) ∷ [] in
+    let f = refused-equations (extractRefusals s two first second) level first (firstOf (collision s two) first) _ e o in
+    (f .0, f .1, refused-equations (extractRefusals s two first second) level second (secondOf (collision s two) second) _ e o .1)

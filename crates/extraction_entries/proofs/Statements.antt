@@ -3,12 +3,11 @@ use mathlib.Core.Path.{_≡_, sym, ap, subst, _∙_}
 use mathlib.Core.List.{List, [], _∷_}
 use mathlib.Core.Option.{Option}
 use Prim.Native.Nat.{ℕ, _<_}
-use Rattle.modular.specs.Goldilocks.{p}
 use Rattle.modular.proofs.Words.{left-true, right-true}
 use Rattle.refusals.specs.Table.{firstRefusal, done}
 use Rattle.refusals.proofs.Table.{written-after}
 use Rattle.parameters.specs.declared.ParameterSet.{ParameterSet}
-use Rattle.parameters.specs.ParameterSet.{setRefusals}
+use Rattle.parameters.specs.ParameterSet.{primeOf, setRefusals}
 use Rattle.merkle.specs.Openings.{pathRow}
 use Rattle.merkle.specs.Extraction.{Collision}
 use Rattle.merkle.proofs.Lists.{ne-same}
@@ -25,24 +24,24 @@ use Rattle.extraction_entries.proofs.Verdicts as verdicts
 use Rattle.extraction_entries.proofs.Extracted.{paired, found, collided, replies}
 
 -- what a verdict compresses at a level is a row
-row-at : (s : ParameterSet) → firstRefusal (setRefusals p s) ≡ 0 → (q : ℕ) (leaf siblings : List ℕ) → Opening s leaf siblings
-    → (j : ℕ) → j < s .height → IsRow s (pathRow (treeOf p s) q leaf siblings j)
+row-at : (s : ParameterSet) → firstRefusal (setRefusals s) ≡ 0 → (q : ℕ) (leaf siblings : List ℕ) → Opening s leaf siblings
+    → (j : ℕ) → j < s .height → IsRow s (pathRow (treeOf s) q leaf siblings j)
 row-at s valid q leaf siblings O j below = (
-  length-path-row (treeOf p s) (shape-regular s valid) (s .height) q leaf siblings (O .leaf-long) (O .siblings-long) j below ∙ width-is s valid,
-  path-row-words (treeOf p s) (shape-regular s valid) (s .height) q leaf siblings (O .leaf-long) (O .siblings-long) p (keeps-words (valid-numbers s valid) (s .diagonal) (s .constants)) (O .leaf-words) (O .siblings-words) j below,
+  length-path-row (treeOf s) (shape-regular s valid) (s .height) q leaf siblings (O .leaf-long) (O .siblings-long) j below ∙ width-is s valid,
+  path-row-words (treeOf s) (shape-regular s valid) (s .height) q leaf siblings (O .leaf-long) (O .siblings-long) (primeOf s) (keeps-words (valid-numbers s valid) (s .diagonal) (s .constants)) (O .leaf-words) (O .siblings-words) j below,
 )
 
-module _ (s : ParameterSet) (two : Pair) (first second : List ℕ) (z : firstRefusal (extractRefusals p s two first second) ≡ 0) where
-  one : extractedFirst p s two first second ≡ found s two first second z .collision .first
+module _ (s : ParameterSet) (two : Pair) (first second : List ℕ) (z : firstRefusal (extractRefusals s two first second) ≡ 0) where
+  one : extractedFirst s two first second ≡ found s two first second z .collision .first
   unfolding firstOf extractedFirst
   one =
-      sym (written-after first (firstOf (collision p s two) first) (replies s two first second z))
+      sym (written-after first (firstOf (collision s two) first) (replies s two first second z))
       ∙ ap (λ (o : Option Collision). firstOf o first) (collided s two first second z)
 
-  other : extractedSecond p s two first second ≡ found s two first second z .collision .second
+  other : extractedSecond s two first second ≡ found s two first second z .collision .second
   unfolding secondOf extractedSecond
   other =
-      sym (written-after second (secondOf (collision p s two) second) (replies s two first second z))
+      sym (written-after second (secondOf (collision s two) second) (replies s two first second z))
       ∙ ap (λ (o : Option Collision). secondOf o second) (collided s two first second z)
 
   collides : Collides s two first second
@@ -53,7 +52,7 @@ module _ (s : ParameterSet) (two : Pair) (first second : List ℕ) (z : firstRef
         level = found s two first second z .collision .level;
         answered = replies s two first second z ∙ ap (λ (o : Option Collision). done (levelOf o ∷ [])) (collided s two first second z);
         differ = λ w. C .differ (sym one ∙ w ∙ other);
-        alike = ap (treeOf p s .compress) one ∙ C .alike ∙ sym (ap (treeOf p s .compress) other);
+        alike = ap (treeOf s .compress) one ∙ C .alike ∙ sym (ap (treeOf s .compress) other);
       }
 
   pub written : Written s two first second

@@ -5,7 +5,6 @@ use mathlib.Core.Bool.{Bool, true, false, not, cond}
 use mathlib.Core.List.{List, [], _∷_}
 use Prim.Native.Nat.{ℕ}
 use native.Mathlib.Omega.{arith}
-use Rattle.modular.specs.Goldilocks.{p}
 use Rattle.refusals.specs.Table.{refusal, firstRefusal, Reply, refused, done}
 use Rattle.refusals.proofs.Table.{first-back, reply-done, refusal-applies, refusal-passes}
 use Rattle.refusals.proofs.LengthsAndWords.{and-false-left, and-false-right}
@@ -41,14 +40,14 @@ no-value : (b : Bool) → _≡_ {A = ℕ} 2 (cond b 1 0) → ⊥
 no-value true e = omega (arith, e)
 no-value false e = omega (arith, e)
 
-module _ (s : ParameterSet) (top : List ℕ) (q : ℕ) (leaf siblings : List ℕ) (none : firstRefusal (verifyRefusals p s top q leaf siblings) ≡ 0) where
+module _ (s : ParameterSet) (top : List ℕ) (q : ℕ) (leaf siblings : List ℕ) (none : firstRefusal (verifyRefusals s top q leaf siblings) ≡ 0) where
   abbrev yes : Bool
-  yes = accepts (treeOf p s) (s .height) top q leaf siblings
+  yes = accepts (treeOf s) (s .height) top q leaf siblings
 
-  module _ (v : Verdict) (said : verdictReply v ≡ verifyReply p s top q leaf siblings) where
+  module _ (v : Verdict) (said : verdictReply v ≡ verifyReply s top q leaf siblings) where
     valued : value (verdictReply v) ≡ cond yes 1 0
     unfolding verifyReply
-    valued = ap value (said ∙ reply-done (verifyRefusals p s top q leaf siblings) (cond yes 1 0 ∷ []) (verify-numbered s top q leaf siblings) none)
+    valued = ap value (said ∙ reply-done (verifyRefusals s top q leaf siblings) (cond yes 1 0 ∷ []) (verify-numbered s top q leaf siblings) none)
 
     pub refusal-of-accepted : v ≡ Accepted → _≡_ {A = ℕ} 0 (firstRefusal (refusal 14 (not yes) ∷ []))
     unfolding verdictReply
@@ -77,40 +76,40 @@ opening-rejected false e n = (refl, e)
 -- the verdicts on the two openings
 module _ (s : ParameterSet) (two : Pair) where
   abbrev pub one : Bool
-  one = accepts (treeOf p s) (s .height) (two .root) (two .place) (two .firstLeaf) (two .firstSiblings)
+  one = accepts (treeOf s) (s .height) (two .root) (two .place) (two .firstLeaf) (two .firstSiblings)
 
   abbrev pub other : Bool
-  other = accepts (treeOf p s) (s .height) (two .root) (two .place) (two .secondLeaf) (two .secondSiblings)
+  other = accepts (treeOf s) (s .height) (two .root) (two .place) (two .secondLeaf) (two .secondSiblings)
 
 -- the refusals behind 12
-module _ (s : ParameterSet) (two : Pair) (first second : List ℕ) (none : firstRefusal (pairRefusals p s two first second) ≡ 0) where
-  behind : firstRefusal (extractRefusals p s two first second) ≡ firstRefusal (refusal 14 (not (bothAccepted p s two)) ∷ refusal 15 (same (two .firstLeaf) (two .secondLeaf)) ∷ [])
+module _ (s : ParameterSet) (two : Pair) (first second : List ℕ) (none : firstRefusal (pairRefusals s two first second) ≡ 0) where
+  behind : firstRefusal (extractRefusals s two first second) ≡ firstRefusal (refusal 14 (not (bothAccepted s two)) ∷ refusal 15 (same (two .firstLeaf) (two .secondLeaf)) ∷ [])
   unfolding extractRefusals
-  behind = first-back (pairRefusals p s two first second) _ (pair-numbered s two first second) none
+  behind = first-back (pairRefusals s two first second) _ (pair-numbered s two first second) none
 
-  fourteen : bothAccepted p s two ≡ false → firstRefusal (extractRefusals p s two first second) ≡ 14
-  fourteen e = behind ∙ refusal-applies 14 (not (bothAccepted p s two)) _ (ap not e)
+  fourteen : bothAccepted s two ≡ false → firstRefusal (extractRefusals s two first second) ≡ 14
+  fourteen e = behind ∙ refusal-applies 14 (not (bothAccepted s two)) _ (ap not e)
 
-  pub first-rejected : {r : ℕ} → r ≡ firstRefusal (refusal 14 (not (one s two)) ∷ []) → r ≢ 0 → r ≡ firstRefusal (extractRefusals p s two first second)
+  pub first-rejected : {r : ℕ} → r ≡ firstRefusal (refusal 14 (not (one s two)) ∷ []) → r ≢ 0 → r ≡ firstRefusal (extractRefusals s two first second)
   unfolding bothAccepted
   first-rejected e n =
       let f = opening-rejected (one s two) e n in
       f .1 ∙ sym (fourteen (and-false-left (one s two) (other s two) (f .0)))
 
-  pub second-rejected : one s two ≡ true → {r : ℕ} → r ≡ firstRefusal (refusal 14 (not (other s two)) ∷ []) → r ≢ 0 → r ≡ firstRefusal (extractRefusals p s two first second)
+  pub second-rejected : one s two ≡ true → {r : ℕ} → r ≡ firstRefusal (refusal 14 (not (other s two)) ∷ []) → r ≢ 0 → r ≡ firstRefusal (extractRefusals s two first second)
   unfolding bothAccepted
   second-rejected o e n =
       let f = opening-rejected (other s two) e n in
       f .1 ∙ sym (fourteen (and-false-right (one s two) (other s two) o (f .0)))
 
   module _ (e : one s two ≡ true) (f : other s two ≡ true) where
-    accepted : firstRefusal (extractRefusals p s two first second) ≡ firstRefusal (refusal 15 (same (two .firstLeaf) (two .secondLeaf)) ∷ [])
+    accepted : firstRefusal (extractRefusals s two first second) ≡ firstRefusal (refusal 15 (same (two .firstLeaf) (two .secondLeaf)) ∷ [])
     unfolding bothAccepted
-    accepted = behind ∙ refusal-passes 14 (not (bothAccepted p s two)) _ (ap not (and-true (one s two) (other s two) e f))
+    accepted = behind ∙ refusal-passes 14 (not (bothAccepted s two)) _ (ap not (and-true (one s two) (other s two) e f))
 
-    pub equal-leaves : same (two .firstLeaf) (two .secondLeaf) ≡ true → _≡_ {A = ℕ} 15 (firstRefusal (extractRefusals p s two first second))
+    pub equal-leaves : same (two .firstLeaf) (two .secondLeaf) ≡ true → _≡_ {A = ℕ} 15 (firstRefusal (extractRefusals s two first second))
     equal-leaves g = sym (accepted ∙ refusal-applies 15 (same (two .firstLeaf) (two .secondLeaf)) [] g)
 
-    pub other-leaves : same (two .firstLeaf) (two .secondLeaf) ≡ false → _≡_ {A = ℕ} 0 (firstRefusal (extractRefusals p s two first second))
+    pub other-leaves : same (two .firstLeaf) (two .secondLeaf) ≡ false → _≡_ {A = ℕ} 0 (firstRefusal (extractRefusals s two first second))
     unfolding firstRefusal
     other-leaves g = sym (accepted ∙ refusal-passes 15 (same (two .firstLeaf) (two .secondLeaf)) [] g)

@@ -5,7 +5,7 @@ use mathlib.Core.Option.{Option, none, some}
 use Prim.Native.Nat.{ℕ}
 use Rattle.refusals.specs.Table.{Refusal, refusal, notWords, Reply, refused, done, reply, after}
 use Rattle.parameters.specs.declared.ParameterSet.{ParameterSet}
-use Rattle.parameters.specs.ParameterSet.{setRefusals}
+use Rattle.parameters.specs.ParameterSet.{primeOf, setRefusals}
 use Rattle.merkle.specs.Lists.{same}
 use Rattle.merkle.specs.Openings.{accepts}
 use Rattle.merkle.specs.Extraction.{Collision, extract}
@@ -32,29 +32,29 @@ abbrev pub pair : List ℕ → ℕ → List ℕ → List ℕ → List ℕ → Li
 pair top q a xs b ys = record { root = top; place = q; firstLeaf = a; firstSiblings = xs; secondLeaf = b; secondSiblings = ys }
 
 -- a leaf and its siblings have their lengths
-abbrev pub opens : ℕ → ParameterSet → List ℕ → List ℕ → Bool
-opens p s leaf siblings = has leaf (s .«node_size») && has siblings (openingWords p s)
+abbrev pub opens : ParameterSet → List ℕ → List ℕ → Bool
+opens s leaf siblings = has leaf (s .«node_size») && has siblings (openingWords s)
 
-module _ (p : ℕ) (s : ParameterSet) (two : Pair) where
+module _ (s : ParameterSet) (two : Pair) where
   open Pair two using (root as top, place as q, firstLeaf as a, firstSiblings as xs, secondLeaf as b, secondSiblings as ys)
 
   -- what refusal 10 asks the lengths of: the root, both leaves with their siblings, and the two buffers (Rules 8.8)
   unfoldable pub pairFits : List ℕ → List ℕ → Bool
   pairFits first second =
       has top (s .«node_size»)
-      && (opens p s a xs && (opens p s b ys && (has first (s .width) && has second (s .width))))
+      && (opens s a xs && (opens s b ys && (has first (s .width) && has second (s .width))))
 
   -- refusals 1 to 12
   unfoldable pub pairRefusals : List ℕ → List ℕ → List Refusal
   pairRefusals first second =
-      setRefusals p s
+      setRefusals s
       ++ (refusal 10 (not (pairFits first second))
-      ∷ noPlace p s q
-      ∷ notWords p (top ++ (a ++ (xs ++ (b ++ ys)))) ∷ [])
+      ∷ noPlace s q
+      ∷ notWords (primeOf s) (top ++ (a ++ (xs ++ (b ++ ys)))) ∷ [])
 
   -- where this is not so the refusal is 14 (Rules 8.1)
   unfoldable pub bothAccepted : Bool
-  bothAccepted = accepts (treeOf p s) (s .height) top q a xs && accepts (treeOf p s) (s .height) top q b ys
+  bothAccepted = accepts (treeOf s) (s .height) top q a xs && accepts (treeOf s) (s .height) top q b ys
 
   -- all refusals; 15 is of equal leaves (Rules 8.1)
   unfoldable pub extractRefusals : List ℕ → List ℕ → List Refusal
@@ -62,7 +62,7 @@ module _ (p : ℕ) (s : ParameterSet) (two : Pair) where
 
   -- the lowest level at which the rows of the two leaves collide, with both rows (Rules 5.7)
   unfoldable pub collision : Option Collision
-  collision = extract (treeOf p s) (s .height) q a xs b ys
+  collision = extract (treeOf s) (s .height) q a xs b ys
 
 -- What of a collision is answered and written. Where nothing is refused there is one, as both leaves are accepted and differ (Rules 5.8).
 unfoldable pub levelOf : Option Collision → ℕ
@@ -77,12 +77,12 @@ unfoldable pub secondOf : Option Collision → List ℕ → List ℕ
 secondOf none old = old
 secondOf (some c) old = c .second
 
-unfoldable pub extractReply : ℕ → ParameterSet → Pair → List ℕ → List ℕ → Reply
-extractReply p s two first second = reply (extractRefusals p s two first second) (levelOf (collision p s two) ∷ [])
+unfoldable pub extractReply : ParameterSet → Pair → List ℕ → List ℕ → Reply
+extractReply s two first second = reply (extractRefusals s two first second) (levelOf (collision s two) ∷ [])
 
 -- The row of the first leaf is in the first buffer, that of the second in the second (Rules 5.7).
-unfoldable pub extractedFirst : ℕ → ParameterSet → Pair → List ℕ → List ℕ → List ℕ
-extractedFirst p s two first second = after (extractReply p s two first second) first (firstOf (collision p s two) first)
+unfoldable pub extractedFirst : ParameterSet → Pair → List ℕ → List ℕ → List ℕ
+extractedFirst s two first second = after (extractReply s two first second) first (firstOf (collision s two) first)
 
-unfoldable pub extractedSecond : ℕ → ParameterSet → Pair → List ℕ → List ℕ → List ℕ
-extractedSecond p s two first second = after (extractReply p s two first second) second (secondOf (collision p s two) second)
+unfoldable pub extractedSecond : ParameterSet → Pair → List ℕ → List ℕ → List ℕ
+extractedSecond s two first second = after (extractReply s two first second) second (secondOf (collision s two) second)

@@ -4,8 +4,8 @@ ghost use mathlib.Core.Bool.{not, _&&_};
 ghost use mathlib.Core.List.{[], _∷_, _++_};
 ghost use Prim.Native.Nat.{ℕ};
 ghost use Rattle.modular.specs.Arithmetic.{allWords};
-ghost use Rattle.modular.specs.Goldilocks.{p};
 ghost use Rattle.refusals.specs.Table.{refusal, firstRefusal};
+ghost use Rattle.fields.specs.Prime.{prime};
 ghost use Rattle.merkle.specs.Openings.{accepts};
 ghost use Rattle.trees.specs.SetTrees.{treeOf, openingWords};
 ghost use Rattle.tree_entries.specs.Trees.{has, verifyRefusals};
@@ -42,7 +42,7 @@ fn pair_fits(
     first_row: &[u64],
     second_row: &[u64],
 ) -> bool
-    ensures { λ r. ⌜ ((q : ℕ) → beside ≡ openingWords p set → r ≡ pairFits p set (pair (now (root .entry)) q (now (first .entry)) (now («first_siblings» .entry)) (now (second .entry)) (now («second_siblings» .entry))) (now («first_row» .entry)) (now («second_row» .entry))) ⌝ }
+    ensures { λ r. ⌜ ((q : ℕ) → beside ≡ openingWords set → r ≡ pairFits set (pair (now (root .entry)) q (now (first .entry)) (now («first_siblings» .entry)) (now (second .entry)) (now («second_siblings» .entry))) (now («first_row» .entry)) (now («second_row» .entry))) ⌝ }
 {
     if root.len() as u64 != set.node_size {
         return false;
@@ -67,7 +67,7 @@ fn pair_is_words(
     second: &[u64],
     second_siblings: &[u64],
 ) -> bool
-    ensures { λ r. ⌜ r ≡ allWords p (now (root .entry) ++ (now (first .entry) ++ (now («first_siblings» .entry) ++ (now (second .entry) ++ now («second_siblings» .entry))))) ⌝ }
+    ensures { λ r. ⌜ r ≡ allWords prime (now (root .entry) ++ (now (first .entry) ++ (now («first_siblings» .entry) ++ (now (second .entry) ++ now («second_siblings» .entry))))) ⌝ }
 {
     if !parameters::all_words(root) {
         return false;
@@ -96,7 +96,7 @@ fn refusal_of_pair(
     first_row: &[u64],
     second_row: &[u64],
 ) -> u8
-    ensures { λ r. ⌜ r ≡ firstRefusal (pairRefusals p set (pair (now (root .entry)) place (now (first .entry)) (now («first_siblings» .entry)) (now (second .entry)) (now («second_siblings» .entry))) (now («first_row» .entry)) (now («second_row» .entry))) ⌝ }
+    ensures { λ r. ⌜ r ≡ firstRefusal (pairRefusals set (pair (now (root .entry)) place (now (first .entry)) (now («first_siblings» .entry)) (now (second .entry)) (now («second_siblings» .entry))) (now («first_row» .entry)) (now («second_row» .entry))) ⌝ }
 {
     let number = state_entries::refusal_of(set);
     if number != 0 {
@@ -133,8 +133,8 @@ fn refusal_of_opening(
     leaf: &[u64],
     siblings: &[u64],
 ) -> u8
-    ensures { λ r. ⌜ (firstRefusal (verifyRefusals p set (now (root .entry)) place (now (leaf .entry)) (now (siblings .entry))) ≡ 0
-        → r ≡ firstRefusal (refusal 14 (not (accepts (treeOf p set) (set .height) (now (root .entry)) place (now (leaf .entry)) (now (siblings .entry)))) ∷ [])) ⌝ }
+    ensures { λ r. ⌜ (firstRefusal (verifyRefusals set (now (root .entry)) place (now (leaf .entry)) (now (siblings .entry))) ≡ 0
+        → r ≡ firstRefusal (refusal 14 (not (accepts (treeOf set) (set .height) (now (root .entry)) place (now (leaf .entry)) (now (siblings .entry)))) ∷ [])) ⌝ }
 {
     match tree_entries::verify(set, root, place, leaf, siblings) {
         Verdict::Accepted => 0,
@@ -155,7 +155,7 @@ fn refusal_of_extract(
     first_row: &[u64],
     second_row: &[u64],
 ) -> u8
-    ensures { λ r. ⌜ r ≡ firstRefusal (extractRefusals p set (pair (now (root .entry)) place (now (first .entry)) (now («first_siblings» .entry)) (now (second .entry)) (now («second_siblings» .entry))) (now («first_row» .entry)) (now («second_row» .entry))) ⌝ }
+    ensures { λ r. ⌜ r ≡ firstRefusal (extractRefusals set (pair (now (root .entry)) place (now (first .entry)) (now («first_siblings» .entry)) (now (second .entry)) (now («second_siblings» .entry))) (now («first_row» .entry)) (now («second_row» .entry))) ⌝ }
 {
     let number = refusal_of_pair(
         set,
@@ -198,9 +198,9 @@ pub fn extract(
     first_row: &mut [u64],
     second_row: &mut [u64],
 ) -> Extraction
-    ensures { λ r. ⌜ (extractionReply r ≡ extractReply p set (pair (now (root .entry)) place (now (first .entry)) (now («first_siblings» .entry)) (now (second .entry)) (now («second_siblings» .entry))) (now («first_row» .entry)) (now («second_row» .entry)))
-        × (now («first_row» .exit) ≡ extractedFirst p set (pair (now (root .entry)) place (now (first .entry)) (now («first_siblings» .entry)) (now (second .entry)) (now («second_siblings» .entry))) (now («first_row» .entry)) (now («second_row» .entry)))
-        × (now («second_row» .exit) ≡ extractedSecond p set (pair (now (root .entry)) place (now (first .entry)) (now («first_siblings» .entry)) (now (second .entry)) (now («second_siblings» .entry))) (now («first_row» .entry)) (now («second_row» .entry))) ⌝ }
+    ensures { λ r. ⌜ (extractionReply r ≡ extractReply set (pair (now (root .entry)) place (now (first .entry)) (now («first_siblings» .entry)) (now (second .entry)) (now («second_siblings» .entry))) (now («first_row» .entry)) (now («second_row» .entry)))
+        × (now («first_row» .exit) ≡ extractedFirst set (pair (now (root .entry)) place (now (first .entry)) (now («first_siblings» .entry)) (now (second .entry)) (now («second_siblings» .entry))) (now («first_row» .entry)) (now («second_row» .entry)))
+        × (now («second_row» .exit) ≡ extractedSecond set (pair (now (root .entry)) place (now (first .entry)) (now («first_siblings» .entry)) (now (second .entry)) (now («second_siblings» .entry))) (now («first_row» .entry)) (now («second_row» .entry))) ⌝ }
 {
     let number = refusal_of_extract(
         set,

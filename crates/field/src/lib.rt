@@ -1,5 +1,6 @@
 // The field of p = 2^64 - 2^32 + 1 on words, the numbers below p (Rules 1). The fast path's numbers are in `lazy`.
 pub mod lazy;
+pub mod parts;
 
 ghost use mathlib.Core.Path.{_≡_};
 ghost use Prim.Native.Nat.{_<_};

@@ -1,8 +1,7 @@
 // The field's entries, for any numbers of 64 bits.
 ghost use mathlib.Core.Path.{_≡_};
-ghost use Rattle.modular.specs.Goldilocks.{p};
+ghost use Rattle.fields.specs.Prime.{prime};
 ghost use Rattle.field_entries.specs.Arithmetic.{replyOf, sumReply, differenceReply, productReply, powerReply, inverseReply, seventhRootReply};
-use field::P;
 
 // A word, or the number of the refusal.
 pub enum Answer {
@@ -12,72 +11,78 @@ pub enum Answer {
 
 // a + b modulo p.
 pub fn sum(a: u64, b: u64) -> Answer
-    ensures { λ r. ⌜ replyOf r ≡ sumReply p a b ⌝ }
+    ensures { λ r. ⌜ replyOf r ≡ sumReply prime a b ⌝ }
 {
-    if P <= a {
+    let order = fields::order();
+    if order <= a {
         return Answer::Refused(12);
     }
-    if P <= b {
+    if order <= b {
         return Answer::Refused(12);
     }
-    Answer::Word(field::sum(a, b))
+    Answer::Word(fields::sum(a, b))
 }
 
 // a - b modulo p.
 pub fn difference(a: u64, b: u64) -> Answer
-    ensures { λ r. ⌜ replyOf r ≡ differenceReply p a b ⌝ }
+    ensures { λ r. ⌜ replyOf r ≡ differenceReply prime a b ⌝ }
 {
-    if P <= a {
+    let order = fields::order();
+    if order <= a {
         return Answer::Refused(12);
     }
-    if P <= b {
+    if order <= b {
         return Answer::Refused(12);
     }
-    Answer::Word(field::difference(a, b))
+    Answer::Word(fields::difference(a, b))
 }
 
 // a * b modulo p.
 pub fn product(a: u64, b: u64) -> Answer
-    ensures { λ r. ⌜ replyOf r ≡ productReply p a b ⌝ }
+    ensures { λ r. ⌜ replyOf r ≡ productReply prime a b ⌝ }
 {
-    if P <= a {
+    let order = fields::order();
+    if order <= a {
         return Answer::Refused(12);
     }
-    if P <= b {
+    if order <= b {
         return Answer::Refused(12);
     }
-    Answer::Word(field::product(a, b))
+    Answer::Word(fields::product(a, b))
 }
 
 // base to the power exponent modulo p. The exponent is any number of 64 bits.
 pub fn power(base: u64, exponent: u64) -> Answer
-    ensures { λ r. ⌜ replyOf r ≡ powerReply p base exponent ⌝ }
+    ensures { λ r. ⌜ replyOf r ≡ powerReply prime base exponent ⌝ }
 {
-    if P <= base {
+    let order = fields::order();
+    if order <= base {
         return Answer::Refused(12);
     }
-    Answer::Word(field::power(base, exponent))
+    Answer::Word(fields::power(base, exponent))
 }
 
 // The word whose product with x is 1.
 pub fn inverse(x: u64) -> Answer
-    ensures { λ r. ⌜ replyOf r ≡ inverseReply p x ⌝ }
+    ensures { λ r. ⌜ replyOf r ≡ inverseReply prime x ⌝ }
 {
-    if P <= x {
+    let order = fields::order();
+    if order <= x {
         return Answer::Refused(12);
     }
     if x == 0 {
         return Answer::Refused(13);
     }
-    Answer::Word(field::inverse(x))
+    Answer::Word(fields::inverse(x))
 }
 
 // The word whose seventh power is y.
 pub fn seventh_root(y: u64) -> Answer
-    ensures { λ r. ⌜ replyOf r ≡ seventhRootReply p y ⌝ }
+    ensures { λ r. ⌜ replyOf r ≡ seventhRootReply prime y ⌝ }
 {
-    if P <= y {
+    let order = fields::order();
+    if order <= y {
         return Answer::Refused(12);
     }
-    Answer::Word(field::seventh_root(y))
+    Answer::Word(fields::seventh_root(y))
 }

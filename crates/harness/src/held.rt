@@ -5,7 +5,6 @@ use crate::handed;
 use crate::input;
 use crate::lists;
 use crate::output;
-use field::P;
 use parameters::ParameterSet;
 use std::num::wrapping_sub_u64;
 
@@ -23,7 +22,11 @@ fn read_held(input: &[u8], at: usize, seed: u64) -> Held {
     let taken = lists::clamped(count.value, 1024);
     let mut words = [0u64; 1024];
     lists::draw(&mut words, taken, seed, 0);
-    lists::put(&mut words, wrapping_sub_u64(fault.value, 1), P);
+    lists::put(
+        &mut words,
+        wrapping_sub_u64(fault.value, 1),
+        fields::order(),
+    );
     Held {
         words: words,
         count: taken,

@@ -3,7 +3,6 @@ ghost use Prim.Native.Nat.{_≤_};
 use crate::generator;
 use crate::input;
 use crate::output;
-use field::P;
 use std::num::wrapping_add_u64;
 use std::num::wrapping_sub_u64;
 
@@ -24,12 +23,17 @@ pub fn clamped(count: u64, places: usize) -> usize
     }
 }
 
+// A number's word.
+fn word_of(x: u64) -> u64 {
+    x % fields::order()
+}
+
 // Drawn words, and another number in the places beyond them.
 pub fn draw(list: &mut [u64], count: usize, seed: u64, beyond: u64) {
     let mut x = generator::start(seed);
     for i in 0..list.len() {
         x = generator::next(x);
-        list[i] = if i < count { x % P } else { beyond };
+        list[i] = if i < count { word_of(x) } else { beyond };
     }
 }
 
@@ -102,7 +106,7 @@ pub fn write(list: &mut [u64], place: u64, other: &[u64]) {
 pub fn damage(list: &mut [u64], place: usize) {
     if place < list.len() {
         let word = list[place];
-        list[place] = wrapping_add_u64(word, 1) % P;
+        list[place] = word_of(wrapping_add_u64(word, 1));
     }
 }
 

@@ -5,7 +5,6 @@ use mathlib.Core.Bool.{Bool}
 use mathlib.Core.List.{List, [], _∷_}
 use Prim.Native.Nat.{ℕ}
 use lib.ListN.{length}
-use Rattle.modular.specs.Goldilocks.{p}
 use Rattle.modular.proofs.Words.{left-true, and-true}
 use Rattle.refusals.specs.Table.{firstRefusal, done}
 use Rattle.parameters.specs.declared.ParameterSet.{ParameterSet}
@@ -21,21 +20,21 @@ use Rattle.extraction_entries.proofs.Statements.{extracting}
 use Rattle.history.proofs.Replies.{reply-none}
 use Rattle.history.proofs.Openings.{Offered, offered, verdict}
 
-module _ (s : ParameterSet) (valid : firstRefusal (setRefusals p s) ≡ 0) (top : List ℕ) (q : ℕ) (a x b y first second : List ℕ) where
+module _ (s : ParameterSet) (valid : firstRefusal (setRefusals s) ≡ 0) (top : List ℕ) (q : ℕ) (a x b y first second : List ℕ) where
   abbrev two : Pair
   two = pair top q a x b y
 
   abbrev one : Bool
-  one = accepts (treeOf p s) (s .height) top q a x
+  one = accepts (treeOf s) (s .height) top q a x
 
   abbrev other : Bool
-  other = accepts (treeOf p s) (s .height) top q b y
+  other = accepts (treeOf s) (s .height) top q b y
 
   -- nothing was refused: the first leaf is accepted
-  answered-offered : (result : List ℕ) → extractReply p s two first second ≡ done result → Offered s top q a x
+  answered-offered : (result : List ℕ) → extractReply s two first second ≡ done result → Offered s top q a x
   unfolding extractReply bothAccepted
   answered-offered result e =
-      let z = reply-none (extractRefusals p s two first second) (levelOf (collision p s two) ∷ []) result e in
+      let z = reply-none (extractRefusals s two first second) (levelOf (collision s two) ∷ []) result e in
       let P = paired s two first second z in
       record {
         top-long = P .root-long;
@@ -62,7 +61,7 @@ module _ (s : ParameterSet) (valid : firstRefusal (setRefusals p s) ≡ 0) (top 
       extracting s two first second (pair-passes s two first second P) (and-true one other (A .ends) (B .ends)) n .0
 
   pub collides-iff : Offered s top q b y → a ≢ b → length first ≡ s .width → length second ≡ s .width
-      → (verifyReply p s top q a x ≡ done (1 ∷ [])) ↔ Collides s (pair top q a x b y) first second
+      → (verifyReply s top q a x ≡ done (1 ∷ [])) ↔ Collides s (pair top q a x b y) first second
   collides-iff B n lf ls = (
     λ e. collides (offered s top q a x e) B n lf ls,
     λ (C : Collides s (pair top q a x b y) first second). verdict s top q a x valid (answered-offered (C .level ∷ []) (C .answered)),

@@ -2,7 +2,6 @@
 use mathlib.Core.Path.{_≡_, refl, sym, ap, subst, _∙_}
 use mathlib.Core.List.{List, [], _∷_}
 use Prim.Native.Nat.{ℕ}
-use Rattle.modular.specs.Goldilocks.{p}
 use Rattle.refusals.specs.Table.{firstRefusal, Reply}
 use Rattle.refusals.proofs.Table.{written-after}
 use Rattle.parameters.specs.declared.ParameterSet.{ParameterSet}
@@ -16,22 +15,22 @@ use Rattle.history.proofs.Calls.{Follows, replacement-follows, push-fol
 use Rattle.history.proofs.Openings.{verdict, opens, own-taken}
 use Rattle.history.proofs.Collisions.{collides-iff}
 
-module _ (s : ParameterSet) (valid : firstRefusal (setRefusals p s) ≡ 0) where
+module _ (s : ParameterSet) (valid : firstRefusal (setRefusals s) ≡ 0) where
   -- a list of calls, from the store built from the book's leaves
   pub record Whole (calls : List Call) (xs : List ℕ) : Type 0 where
-    pub store : run p s calls (storeOf s xs) .store ≡ storeOf s (bookLeaves p s calls xs)
-    pub answers : run p s calls (storeOf s xs) .answers ≡ bookAnswers p s calls
-    pub leaves : Leaves s (bookLeaves p s calls xs)
+    pub store : run s calls (storeOf s xs) .store ≡ storeOf s (bookLeaves s calls xs)
+    pub answers : run s calls (storeOf s xs) .answers ≡ bookAnswers s calls
+    pub leaves : Leaves s (bookLeaves s calls xs)
 
-  next : (c : Call) (cs : List Call) (xs : List ℕ) → Follows s c xs → Whole cs (bookAfter p s c xs) → Whole (c ∷ cs) xs
+  next : (c : Call) (cs : List Call) (xs : List ℕ) → Follows s c xs → Whole cs (bookAfter s c xs) → Whole (c ∷ cs) xs
   unfolding run bookLeaves bookAnswers
   next c cs xs F W =
       record {
-        store = ap (λ (z : List ℕ). run p s cs z .store) (F .store) ∙ W .store;
+        store = ap (λ (z : List ℕ). run s cs z .store) (F .store) ∙ W .store;
         answers =
-            ap (λ (z : List ℕ). callReply p s c (storeOf s xs) ∷ run p s cs z .answers) (F .store)
-            ∙ ap (λ (r : Reply). r ∷ run p s cs (storeOf s (bookAfter p s c xs)) .answers) (F .answers)
-            ∙ ap (λ (rs : List Reply). bookReply p s c ∷ rs) (W .answers);
+            ap (λ (z : List ℕ). callReply s c (storeOf s xs) ∷ run s cs z .answers) (F .store)
+            ∙ ap (λ (r : Reply). r ∷ run s cs (storeOf s (bookAfter s c xs)) .answers) (F .answers)
+            ∙ ap (λ (rs : List Reply). bookReply s c ∷ rs) (W .answers);
         leaves = W .leaves;
       }
 
@@ -40,10 +39,10 @@ module _ (s : ParameterSet) (valid : firstRefusal (setRefusals p s) ≡ 0) where
   whole [] xs T L = record { store = refl; answers = refl; leaves = L }
   whole (replacement q leaf ∷ cs) xs T L =
       let F = replacement-follows s valid xs L q leaf in
-      next (replacement q leaf) cs xs F (whole cs (bookAfter p s (replacement q leaf) xs) T (F .leaves))
+      next (replacement q leaf) cs xs F (whole cs (bookAfter s (replacement q leaf) xs) T (F .leaves))
   whole (push rs ∷ cs) xs T L =
       let F = push-follows s valid xs L rs (T .0) in
-      next (push rs) cs xs F (whole cs (bookAfter p s (push rs) xs) (T .1) (F .leaves))
+      next (push rs) cs xs F (whole cs (bookAfter s (push rs) xs) (T .1) (F .leaves))
 
   -- the four parts, of the store built from the book's leaves
   faithful : (xs : List ℕ) (left : Ran) (answers : List Reply) → Leaves s xs
@@ -57,16 +56,16 @@ module _ (s : ParameterSet) (valid : firstRefusal (setRefusals p s) ≡ 0) where
         answered = f;
         own = λ q b buffer g. (
           opens s valid xs L q b buffer g,
-          verdict s (rootOf s store) q (leafAt s q xs) (opened p s store q buffer) valid (own-taken s valid xs L q b buffer g),
+          verdict s (rootOf s store) q (leafAt s q xs) (opened s store q buffer) valid (own-taken s valid xs L q b buffer g),
         );
         other = λ q b buffer g leaf siblings n first second lf ls.
-            collides-iff s valid (rootOf s store) q leaf siblings (leafAt s q xs) (opened p s store q buffer) first second (own-taken s valid xs L q b buffer g) n lf ls;
+            collides-iff s valid (rootOf s store) q leaf siblings (leafAt s q xs) (opened s store q buffer) first second (own-taken s valid xs L q b buffer g) n lf ls;
       })
 
 pub demand3 : Demand3
 demand3 s leaves buffer e calls T =
     let B = begun s leaves buffer e in
     let W = whole s (B .set) calls leaves T (B .given) in
-    faithful s (B .set) (bookLeaves p s calls leaves) (run p s calls (built p s leaves buffer)) (bookAnswers p s calls) (W .leaves)
-    (ap (λ (z : List ℕ). run p s calls z .store) (B .written) ∙ W .store)
-    (ap (λ (z : List ℕ). run p s calls z .answers) (B .written) ∙ W .answers)
+    faithful s (B .set) (bookLeaves s calls leaves) (run s calls (built s leaves buffer)) (bookAnswers s calls) (W .leaves)
+    (ap (λ (z : List ℕ). run s calls z .store) (B .written) ∙ W .store)
+    (ap (λ (z : List ℕ). run s calls z .answers) (B .written) ∙ W .answers)

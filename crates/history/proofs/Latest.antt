@@ -8,12 +8,11 @@ use native.Mathlib.Omega.{arith}
 use lib.Dec.{eqb}
 use lib.ListN.{length}
 use borrow.Author.Tests.{eqb-true, eqb-false}
-use Rattle.modular.specs.Goldilocks.{p}
 use Rattle.modular.proofs.Words.{words-left}
 use Rattle.refusals.specs.Table.{firstRefusal, refused, done, Reply, after}
 use Rattle.refusals.proofs.Table.{reply-refused, reply-done}
 use Rattle.parameters.specs.declared.ParameterSet.{ParameterSet}
-use Rattle.parameters.specs.ParameterSet.{setRefusals}
+use Rattle.parameters.specs.ParameterSet.{primeOf, setRefusals}
 use Rattle.merkle.specs.Lists.{part, put}
 use Rattle.merkle.specs.Replacement.{Change}
 use Rattle.merkle.proofs.Lists.{part-put, part-put-before, part-put-behind}
@@ -33,14 +32,14 @@ unfolding lastFor
 last-append q given [] ys = refl
 last-append q given (c ∷ xs) ys = last-append q (cond (eqb (c .place) q) (c .leaf) given) xs ys
 
-module _ (s : ParameterSet) (valid : firstRefusal (setRefusals p s) ≡ 0) (q : ℕ) (inside : q < leafCount p s) where
+module _ (s : ParameterSet) (valid : firstRefusal (setRefusals s) ≡ 0) (q : ℕ) (inside : q < leafCount s) where
   -- the leaf at q where another, or this one, is put to its place
-  leaf-put : (xs : List ℕ) → Leaves s xs → (i : ℕ) (leaf : List ℕ) → i < leafCount p s → length leaf ≡ s .«node_size»
+  leaf-put : (xs : List ℕ) → Leaves s xs → (i : ℕ) (leaf : List ℕ) → i < leafCount s → length leaf ≡ s .«node_size»
       → leafAt s q (put xs (i * s .«node_size») leaf) ≡ cond (eqb i q) leaf (leafAt s q xs)
   leaf-put xs L i leaf b e = go (eqb i q) refl
     where
       fit-in : i * s .«node_size» + length leaf ≤ length xs
-      fit-in = omega (arith, fits (s .«node_size») (leafCount p s) i b, L .long)
+      fit-in = omega (arith, fits (s .«node_size») (leafCount s) i b, L .long)
 
       go : (t : Bool) → eqb i q ≡ t → leafAt s q (put xs (i * s .«node_size») leaf) ≡ cond t leaf (leafAt s q xs)
       go true f =
@@ -65,67 +64,67 @@ module _ (s : ParameterSet) (valid : firstRefusal (setRefusals p s) ≡ 0) (q : 
       let b = first-inside s valid r rs F in
       let e = leaf-fits s valid r (F .sixes .0) in
       records-last rs (put xs (r .place * s .«node_size») leaf) (rest-fits s valid r rs F)
-      (put-leaves s valid xs L (r .place) leaf b e (words-left p leaf (usedWords (s .«node_size») rs) (F .wordy)))
+      (put-leaves s valid xs L (r .place) leaf b e (words-left (primeOf s) leaf (usedWords (s .«node_size») rs) (F .wordy)))
       ∙ ap (λ (z : List ℕ). lastFor q z (changesOf (s .«node_size») rs)) (leaf-put xs L (r .place) leaf b e)
 
   -- a call, accepted or refused
-  by-reply : (c : Call) (xs : List ℕ) (r : Reply) → bookReply p s c ≡ r
-      → leafAt s q (after r xs (entered p s c xs)) ≡ lastFor q (leafAt s q xs) (ifAccepted r (brought s c))
-      → leafAt s q (bookAfter p s c xs) ≡ lastFor q (leafAt s q xs) (ifAccepted (bookReply p s c) (brought s c))
+  by-reply : (c : Call) (xs : List ℕ) (r : Reply) → bookReply s c ≡ r
+      → leafAt s q (after r xs (entered s c xs)) ≡ lastFor q (leafAt s q xs) (ifAccepted r (brought s c))
+      → leafAt s q (bookAfter s c xs) ≡ lastFor q (leafAt s q xs) (ifAccepted (bookReply s c) (brought s c))
   unfolding bookAfter
   by-reply c xs r e h = rw e h
 
   call-last : (c : Call) (xs : List ℕ)
-      → (firstRefusal (bookRefusals p s c) ≡ 0 → leafAt s q (entered p s c xs) ≡ lastFor q (leafAt s q xs) (brought s c))
-      → leafAt s q (bookAfter p s c xs) ≡ lastFor q (leafAt s q xs) (ifAccepted (bookReply p s c) (brought s c))
+      → (firstRefusal (bookRefusals s c) ≡ 0 → leafAt s q (entered s c xs) ≡ lastFor q (leafAt s q xs) (brought s c))
+      → leafAt s q (bookAfter s c xs) ≡ lastFor q (leafAt s q xs) (ifAccepted (bookReply s c) (brought s c))
   unfolding bookReply after ifAccepted lastFor
-  call-last c xs f = go (firstRefusal (bookRefusals p s c)) refl
+  call-last c xs f = go (firstRefusal (bookRefusals s c)) refl
     where
-      go : (n : ℕ) → firstRefusal (bookRefusals p s c) ≡ n
-          → leafAt s q (bookAfter p s c xs) ≡ lastFor q (leafAt s q xs) (ifAccepted (bookReply p s c) (brought s c))
-      go zero z = by-reply c xs (done (bookCount p s c ∷ [])) (reply-done (bookRefusals p s c) (bookCount p s c ∷ []) (book-numbered s c) z) (f z)
+      go : (n : ℕ) → firstRefusal (bookRefusals s c) ≡ n
+          → leafAt s q (bookAfter s c xs) ≡ lastFor q (leafAt s q xs) (ifAccepted (bookReply s c) (brought s c))
+      go zero z = by-reply c xs (done (bookCount s c ∷ [])) (reply-done (bookRefusals s c) (bookCount s c ∷ []) (book-numbered s c) z) (f z)
       go (suc n) z =
-          by-reply c xs (refused (firstRefusal (bookRefusals p s c))) (reply-refused (bookRefusals p s c) (bookCount p s c ∷ []) (λ w. absurd (omega arith))) refl
+          by-reply c xs (refused (firstRefusal (bookRefusals s c))) (reply-refused (bookRefusals s c) (bookCount s c ∷ []) (λ w. absurd (omega arith))) refl
 
   replacement-last : (xs : List ℕ) → Leaves s xs → (i : ℕ) (leaf : List ℕ)
-      → leafAt s q (bookAfter p s (replacement i leaf) xs) ≡ lastFor q (leafAt s q xs) (ifAccepted (bookReply p s (replacement i leaf)) (brought s (replacement i leaf)))
+      → leafAt s q (bookAfter s (replacement i leaf) xs) ≡ lastFor q (leafAt s q xs) (ifAccepted (bookReply s (replacement i leaf)) (brought s (replacement i leaf)))
   unfolding entered brought lastFor
   replacement-last xs L i leaf = call-last (replacement i leaf) xs (λ z. let g = good s i leaf z in leaf-put xs L i leaf (g .inside) (g .long))
 
   push-last : (xs : List ℕ) → Leaves s xs → (rs : List Record) → SixWords rs
-      → leafAt s q (bookAfter p s (push rs) xs) ≡ lastFor q (leafAt s q xs) (ifAccepted (bookReply p s (push rs)) (brought s (push rs)))
+      → leafAt s q (bookAfter s (push rs) xs) ≡ lastFor q (leafAt s q xs) (ifAccepted (bookReply s (push rs)) (brought s (push rs)))
   unfolding entered brought
   push-last xs L rs sixes = call-last (push rs) xs (λ z. records-last rs xs (fit s rs sixes z) L)
 
   next : (c : Call) (cs : List Call) (xs : List ℕ)
-      → leafAt s q (bookAfter p s c xs) ≡ lastFor q (leafAt s q xs) (ifAccepted (bookReply p s c) (brought s c))
-      → leafAt s q (bookLeaves p s cs (bookAfter p s c xs)) ≡ lastFor q (leafAt s q (bookAfter p s c xs)) (accepted p s cs)
-      → leafAt s q (bookLeaves p s (c ∷ cs) xs) ≡ lastFor q (leafAt s q xs) (accepted p s (c ∷ cs))
+      → leafAt s q (bookAfter s c xs) ≡ lastFor q (leafAt s q xs) (ifAccepted (bookReply s c) (brought s c))
+      → leafAt s q (bookLeaves s cs (bookAfter s c xs)) ≡ lastFor q (leafAt s q (bookAfter s c xs)) (accepted s cs)
+      → leafAt s q (bookLeaves s (c ∷ cs) xs) ≡ lastFor q (leafAt s q xs) (accepted s (c ∷ cs))
   unfolding bookLeaves accepted
   next c cs xs one rest =
       rest
-      ∙ ap (λ (z : List ℕ). lastFor q z (accepted p s cs)) one
-      ∙ sym (last-append q (leafAt s q xs) (ifAccepted (bookReply p s c) (brought s c)) (accepted p s cs))
+      ∙ ap (λ (z : List ℕ). lastFor q z (accepted s cs)) one
+      ∙ sym (last-append q (leafAt s q xs) (ifAccepted (bookReply s c) (brought s c)) (accepted s cs))
 
   each : (calls : List Call) (xs : List ℕ) → Typed calls → Leaves s xs
-      → leafAt s q (bookLeaves p s calls xs) ≡ lastFor q (leafAt s q xs) (accepted p s calls)
+      → leafAt s q (bookLeaves s calls xs) ≡ lastFor q (leafAt s q xs) (accepted s calls)
   unfolding bookLeaves accepted lastFor
   each [] xs T L = refl
   each (replacement i leaf ∷ cs) xs T L =
       next (replacement i leaf) cs xs (replacement-last xs L i leaf)
-      (each cs (bookAfter p s (replacement i leaf) xs) T (replacement-leaves s valid xs L i leaf))
+      (each cs (bookAfter s (replacement i leaf) xs) T (replacement-leaves s valid xs L i leaf))
   each (push rs ∷ cs) xs T L =
       next (push rs) cs xs (push-last xs L rs (T .0))
-      (each cs (bookAfter p s (push rs) xs) (T .1) (push-leaves s valid xs L rs (T .0)))
+      (each cs (bookAfter s (push rs) xs) (T .1) (push-leaves s valid xs L rs (T .0)))
 
 -- k^h leaves of words, after any list of calls
-pub book-leaves : (s : ParameterSet) → firstRefusal (setRefusals p s) ≡ 0 → (calls : List Call) (xs : List ℕ) → Typed calls → Leaves s xs → Leaves s (bookLeaves p s calls xs)
+pub book-leaves : (s : ParameterSet) → firstRefusal (setRefusals s) ≡ 0 → (calls : List Call) (xs : List ℕ) → Typed calls → Leaves s xs → Leaves s (bookLeaves s calls xs)
 unfolding bookLeaves
 book-leaves s valid [] xs T L = L
 book-leaves s valid (replacement q leaf ∷ cs) xs T L =
-    book-leaves s valid cs (bookAfter p s (replacement q leaf) xs) T (replacement-leaves s valid xs L q leaf)
+    book-leaves s valid cs (bookAfter s (replacement q leaf) xs) T (replacement-leaves s valid xs L q leaf)
 book-leaves s valid (push rs ∷ cs) xs T L =
-    book-leaves s valid cs (bookAfter p s (push rs) xs) (T .1) (push-leaves s valid xs L rs (T .0))
+    book-leaves s valid cs (bookAfter s (push rs) xs) (T .1) (push-leaves s valid xs L rs (T .0))
 
 pub latest : Latest
 latest s leaves buffer e calls T =

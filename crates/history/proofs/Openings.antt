@@ -8,13 +8,12 @@ use lib.Dec.{ltb}
 use lib.ListN.{length, getD}
 use borrow.Author.Tests.{ltb-true, lt-ltb, eq-eqb, not-false}
 use Rattle.modular.specs.Arithmetic.{allWords}
-use Rattle.modular.specs.Goldilocks.{p}
 use Rattle.modular.proofs.Words.{and-true, words-left, words-right, words-drop}
 use Rattle.refusals.specs.Table.{firstRefusal, done}
 use Rattle.refusals.proofs.Table.{reply-done, written-after}
 use Rattle.refusals.proofs.LengthsPlacesAndWords as three
 use Rattle.parameters.specs.declared.ParameterSet.{ParameterSet}
-use Rattle.parameters.specs.ParameterSet.{setRefusals}
+use Rattle.parameters.specs.ParameterSet.{primeOf, setRefusals}
 use Rattle.parameters.proofs.Accepted.{set-numbered}
 use Rattle.merkle.specs.Levels.{root}
 use Rattle.merkle.specs.Openings.{opening, accepts}
@@ -31,59 +30,59 @@ use Rattle.history.proofs.Sets.{storeOf, Leaves, words, store-long, sto
 -- what an accepted verdict was handed
 pub record Offered (s : ParameterSet) (top : List ℕ) (q : ℕ) (leaf siblings : List ℕ) : Type 0 where
   pub top-long : length top ≡ s .«node_size»
-  pub top-words : allWords p top ≡ true
-  pub inside : q < leafCount p s
+  pub top-words : allWords (primeOf s) top ≡ true
+  pub inside : q < leafCount s
   pub opening : Opening s leaf siblings
-  pub ends : accepts (treeOf p s) (s .height) top q leaf siblings ≡ true
+  pub ends : accepts (treeOf s) (s .height) top q leaf siblings ≡ true
 
 module _ (s : ParameterSet) (top : List ℕ) (q : ℕ) (leaf siblings : List ℕ) where
   one-true : (b : Bool) → _≡_ {A = ℕ} (cond b 1 0) 1 → b ≡ true
   one-true true e = refl
   one-true false e = absurd (omega arith)
 
-  pub offered : verifyReply p s top q leaf siblings ≡ done (1 ∷ []) → Offered s top q leaf siblings
+  pub offered : verifyReply s top q leaf siblings ≡ done (1 ∷ []) → Offered s top q leaf siblings
   unfolding verifyReply verifyRefusals
   offered e =
-      let yes : Bool = accepts (treeOf p s) (s .height) top q leaf siblings in
-      let z = reply-none (verifyRefusals p s top q leaf siblings) (cond yes 1 0 ∷ []) (1 ∷ []) e in
+      let yes : Bool = accepts (treeOf s) (s .height) top q leaf siblings in
+      let z = reply-none (verifyRefusals s top q leaf siblings) (cond yes 1 0 ∷ []) (1 ∷ []) e in
       let D = verify-passed s top q leaf siblings z in
-      let P = three.passed p (setRefusals p s) (set-numbered p s) (not (has top (s .«node_size») && has leaf (s .«node_size») && has siblings (openingWords p s))) (not (ltb q (leafCount p s))) (top ++ (leaf ++ siblings)) z in
-      let rest = words-right p top (leaf ++ siblings) (P .words) in
-      let one : _≡_ {A = ℕ} (cond yes 1 0) 1 = ap (λ (xs : List ℕ). getD xs 0 0) (reply-result (verifyRefusals p s top q leaf siblings) (cond yes 1 0 ∷ []) (1 ∷ []) (verify-numbered s top q leaf siblings) e) in
+      let P = three.passed (primeOf s) (setRefusals s) (set-numbered s) (not (has top (s .«node_size») && has leaf (s .«node_size») && has siblings (openingWords s))) (not (ltb q (leafCount s))) (top ++ (leaf ++ siblings)) z in
+      let rest = words-right (primeOf s) top (leaf ++ siblings) (P .words) in
+      let one : _≡_ {A = ℕ} (cond yes 1 0) 1 = ap (λ (xs : List ℕ). getD xs 0 0) (reply-result (verifyRefusals s top q leaf siblings) (cond yes 1 0 ∷ []) (1 ∷ []) (verify-numbered s top q leaf siblings) e) in
       record {
         top-long = D .root-long;
-        top-words = words-left p top (leaf ++ siblings) (P .words);
-        inside = ltb-true q (leafCount p s) (not-false (ltb q (leafCount p s)) (P .place));
+        top-words = words-left (primeOf s) top (leaf ++ siblings) (P .words);
+        inside = ltb-true q (leafCount s) (not-false (ltb q (leafCount s)) (P .place));
         opening = record {
           leaf-long = D .leaf-long;
           siblings-long = D .siblings-long;
-          leaf-words = words-left p leaf siblings rest;
-          siblings-words = words-right p leaf siblings rest;
+          leaf-words = words-left (primeOf s) leaf siblings rest;
+          siblings-words = words-right (primeOf s) leaf siblings rest;
         };
         ends = one-true yes one;
       }
 
-  pub verdict : firstRefusal (setRefusals p s) ≡ 0 → Offered s top q leaf siblings → verifyReply p s top q leaf siblings ≡ done (1 ∷ [])
+  pub verdict : firstRefusal (setRefusals s) ≡ 0 → Offered s top q leaf siblings → verifyReply s top q leaf siblings ≡ done (1 ∷ [])
   unfolding verifyReply
   verdict valid O =
-      let yes : Bool = accepts (treeOf p s) (s .height) top q leaf siblings in
-      reply-done (verifyRefusals p s top q leaf siblings) (cond yes 1 0 ∷ []) (verify-numbered s top q leaf siblings)
+      let yes : Bool = accepts (treeOf s) (s .height) top q leaf siblings in
+      reply-done (verifyRefusals s top q leaf siblings) (cond yes 1 0 ∷ []) (verify-numbered s top q leaf siblings)
       (verify-passes s top q leaf siblings valid (O .top-long) (O .top-words) (O .inside) (O .opening))
       ∙ ap (λ (b : Bool). done (cond b 1 0 ∷ [])) (O .ends)
 
 -- a place's own leaf and opening, of the store built from the leaves
-module _ (s : ParameterSet) (valid : firstRefusal (setRefusals p s) ≡ 0) (xs : List ℕ) (L : Leaves s xs) (q : ℕ) (inside : q < leafCount p s) where
-  opening-long : length (opening (treeOf p s) (s .height) q (storeOf s xs)) ≡ openingWords p s
+module _ (s : ParameterSet) (valid : firstRefusal (setRefusals s) ≡ 0) (xs : List ℕ) (L : Leaves s xs) (q : ℕ) (inside : q < leafCount s) where
+  opening-long : length (opening (treeOf s) (s .height) q (storeOf s xs)) ≡ openingWords s
   opening-long = laws s valid .opened (s .height) q (storeOf s xs) (store-long s valid xs L) inside .long
 
-  opening-words : allWords p (opening (treeOf p s) (s .height) q (storeOf s xs)) ≡ true
+  opening-words : allWords (primeOf s) (opening (treeOf s) (s .height) q (storeOf s xs)) ≡ true
   opening-words = words s valid .opened (s .height) q (storeOf s xs) (store-words s valid xs L)
 
-  root-words : allWords p (rootOf s (storeOf s xs)) ≡ true
+  root-words : allWords (primeOf s) (rootOf s (storeOf s xs)) ≡ true
   unfolding root
-  root-words = words-drop p (length (storeOf s xs) - s .«node_size») (storeOf s xs) (store-words s valid xs L)
+  root-words = words-drop (primeOf s) (length (storeOf s xs) - s .«node_size») (storeOf s xs) (store-words s valid xs L)
 
-  pub own-offered : Offered s (rootOf s (storeOf s xs)) q (leafAt s q xs) (opening (treeOf p s) (s .height) q (storeOf s xs))
+  pub own-offered : Offered s (rootOf s (storeOf s xs)) q (leafAt s q xs) (opening (treeOf s) (s .height) q (storeOf s xs))
   own-offered =
       record {
         top-long = root-long s valid (storeOf s xs) (store-long s valid xs L);
@@ -98,21 +97,21 @@ module _ (s : ParameterSet) (valid : firstRefusal (setRefusals p s) ≡ 0) (xs :
         ends = laws s valid .ownOpening (s .height) q xs (L .long) inside .accepted;
       }
 
-  module _ (buffer : List ℕ) (e : length buffer ≡ openingWords p s) where
-    pub opens : openReply p s (storeOf s xs) q buffer ≡ done []
+  module _ (buffer : List ℕ) (e : length buffer ≡ openingWords s) where
+    pub opens : openReply s (storeOf s xs) q buffer ≡ done []
     unfolding openReply openRefusals
     opens =
         let store = storeOf s xs in
-        let z : firstRefusal (openRefusals p s store q buffer) ≡ 0 =
-        three.at-words p (setRefusals p s) (set-numbered p s) (not (has store (storeWords p s) && has buffer (openingWords p s))) (not (ltb q (leafCount p s))) (opening (treeOf p s) (s .height) q store) valid
-        (ap not (and-true (has store (storeWords p s)) (has buffer (openingWords p s)) (eq-eqb (length store) (storeWords p s) (store-long s valid xs L)) (eq-eqb (length buffer) (openingWords p s) e)))
-        (ap not (lt-ltb q (leafCount p s) inside))
-        ∙ three.no-twelve p (opening (treeOf p s) (s .height) q store) opening-words in
-        reply-done (openRefusals p s store q buffer) [] (open-numbered s store q buffer) z
+        let z : firstRefusal (openRefusals s store q buffer) ≡ 0 =
+        three.at-words (primeOf s) (setRefusals s) (set-numbered s) (not (has store (storeWords s) && has buffer (openingWords s))) (not (ltb q (leafCount s))) (opening (treeOf s) (s .height) q store) valid
+        (ap not (and-true (has store (storeWords s)) (has buffer (openingWords s)) (eq-eqb (length store) (storeWords s) (store-long s valid xs L)) (eq-eqb (length buffer) (openingWords s) e)))
+        (ap not (lt-ltb q (leafCount s) inside))
+        ∙ three.no-twelve (primeOf s) (opening (treeOf s) (s .height) q store) opening-words in
+        reply-done (openRefusals s store q buffer) [] (open-numbered s store q buffer) z
 
-    pub own-opened : opened p s (storeOf s xs) q buffer ≡ opening (treeOf p s) (s .height) q (storeOf s xs)
+    pub own-opened : opened s (storeOf s xs) q buffer ≡ opening (treeOf s) (s .height) q (storeOf s xs)
     unfolding opened
-    own-opened = sym (written-after buffer (opening (treeOf p s) (s .height) q (storeOf s xs)) opens)
+    own-opened = sym (written-after buffer (opening (treeOf s) (s .height) q (storeOf s xs)) opens)
 
-    pub own-taken : Offered s (rootOf s (storeOf s xs)) q (leafAt s q xs) (opened p s (storeOf s xs) q buffer)
+    pub own-taken : Offered s (rootOf s (storeOf s xs)) q (leafAt s q xs) (opened s (storeOf s xs) q buffer)
     own-taken = subst (Offered s (rootOf s (storeOf s xs)) q (leafAt s q xs)) (sym own-opened) own-offered

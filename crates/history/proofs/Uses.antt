@@ -6,10 +6,10 @@ use Prim.Native.Nat.{ℕ, _^_}
 use lib.Dec.{ltb}
 use lib.ListN.{length, replicate, length-replicate}
 use borrow.Author.Tests.{eq-eqb, le-leb, lt-ltb}
-use Rattle.modular.specs.Goldilocks.{p}
 use Rattle.refusals.specs.Table.{firstRefusal, Reply, done}
 use Rattle.refusals.proofs.Table.{none, reply-done}
 use Rattle.refusals.proofs.LengthsPlacesAndWords as three
+use Rattle.parameters.specs.ParameterSet.{primeOf}
 use Rattle.parameters.specs.declared.ParameterSet.{ParameterSet}
 use Rattle.trees.specs.SetTrees.{leafCount, storeWords, openingWords}
 use Rattle.tree_entries.specs.Trees.{has, built, opened, verifyReply}
@@ -37,42 +37,42 @@ zeros-long n = length-replicate n 0
 
 root-of-book : RootOfBook
 root-of-book s leaves blank e calls T =
-    let written = demand3 s leaves blank e calls T .stored (zeros (storeWords p s)) (zeros-long (storeWords p s)) in
-    let B = begun s (bookLeaves p s calls leaves) (zeros (storeWords p s)) (written .0) in
-    ap (rootOf s) (written .1 ∙ B .written) ∙ sym (laws s (B .set) .storeless .agrees (s .height) (bookLeaves p s calls leaves) (B .given .long))
+    let written = demand3 s leaves blank e calls T .stored (zeros (storeWords s)) (zeros-long (storeWords s)) in
+    let B = begun s (bookLeaves s calls leaves) (zeros (storeWords s)) (written .0) in
+    ap (rootOf s) (written .1 ∙ B .written) ∙ sym (laws s (B .set) .storeless .agrees (s .height) (bookLeaves s calls leaves) (B .given .long))
 
 -- what the book answers where it refuses nothing
-counted : (s : ParameterSet) (c : Call) → firstRefusal (bookRefusals p s c) ≡ 0 → bookReply p s c ≡ done (bookCount p s c ∷ [])
+counted : (s : ParameterSet) (c : Call) → firstRefusal (bookRefusals s c) ≡ 0 → bookReply s c ≡ done (bookCount s c ∷ [])
 unfolding bookReply
-counted s c z = reply-done (bookRefusals p s c) (bookCount p s c ∷ []) (book-numbered s c) z
+counted s c z = reply-done (bookRefusals s c) (bookCount s c ∷ []) (book-numbered s c) z
 
 counts : Counts
 unfolding bookAnswers bookRefusals bookCount
 counts s leaves blank e rs sixes few places used q leaf long inside wordy =
-    let a : firstRefusal (bookRefusals p s (push rs)) ≡ 0 =
-    three.at-words p [] none (not (fewRecords rs)) (not (placesBelow (leafCount p s) rs)) (usedWords (s .«node_size») rs) no-row (ap not (le-leb (length rs) (2 ^ 32) few)) (ap not places)
-    ∙ three.no-twelve p (usedWords (s .«node_size») rs) used in
-    let b : firstRefusal (bookRefusals p s (replacement q leaf)) ≡ 0 =
-    three.at-words p [] none (not (has leaf (s .«node_size»))) (not (ltb q (leafCount p s))) leaf no-row (ap not (eq-eqb (length leaf) (s .«node_size») long)) (ap not (lt-ltb q (leafCount p s) inside))
-    ∙ three.no-twelve p leaf wordy in
+    let a : firstRefusal (bookRefusals s (push rs)) ≡ 0 =
+    three.at-words (primeOf s) [] none (not (fewRecords rs)) (not (placesBelow (leafCount s) rs)) (usedWords (s .«node_size») rs) no-row (ap not (le-leb (length rs) (2 ^ 32) few)) (ap not places)
+    ∙ three.no-twelve (primeOf s) (usedWords (s .«node_size») rs) used in
+    let b : firstRefusal (bookRefusals s (replacement q leaf)) ≡ 0 =
+    three.at-words (primeOf s) [] none (not (has leaf (s .«node_size»))) (not (ltb q (leafCount s))) leaf no-row (ap not (eq-eqb (length leaf) (s .«node_size») long)) (ap not (lt-ltb q (leafCount s) inside))
+    ∙ three.no-twelve (primeOf s) leaf wordy in
     demand3 s leaves blank e (push rs ∷ replacement q leaf ∷ []) (sixes, tt) .answered
     ∙ ap₂ (λ (x y : Reply). x ∷ y ∷ []) (counted s (push rs) a) (counted s (replacement q leaf) b)
 
 own-accepted : OwnAccepted
 own-accepted s leaves blank e calls T q inside buffer long =
-    ap (λ (top : List ℕ). verifyReply p s top q (leafAt s q (bookLeaves p s calls leaves)) (opened p s (run p s calls (built p s leaves blank) .store) q buffer)) (sym (root-of-book s leaves blank e calls T))
+    ap (λ (top : List ℕ). verifyReply s top q (leafAt s q (bookLeaves s calls leaves)) (opened s (run s calls (built s leaves blank) .store) q buffer)) (sym (root-of-book s leaves blank e calls T))
     ∙ demand3 s leaves blank e calls T .own q inside buffer long .1
 
 -- what extraction writes where it answers a level
-rows-of : (s : ParameterSet) (two : Pair) (first second : List ℕ) {result : List ℕ} → extractReply p s two first second ≡ done result
-    → IsRow s (extractedFirst p s two first second) × IsRow s (extractedSecond p s two first second)
+rows-of : (s : ParameterSet) (two : Pair) (first second : List ℕ) {result : List ℕ} → extractReply s two first second ≡ done result
+    → IsRow s (extractedFirst s two first second) × IsRow s (extractedSecond s two first second)
 unfolding extractReply
 rows-of s two first second e =
-    written s two first second (reply-none (extractRefusals p s two first second) (levelOf (collision p s two) ∷ []) _ e) .rows
+    written s two first second (reply-none (extractRefusals s two first second) (levelOf (collision s two) ∷ []) _ e) .rows
 
 other-collides : OtherCollides
 other-collides s leaves blank e calls T q inside leaf siblings n v =
-    let C = demand3 s leaves blank e calls T .other q inside (zeros (openingWords p s)) (zeros-long (openingWords p s)) leaf siblings n
+    let C = demand3 s leaves blank e calls T .other q inside (zeros (openingWords s)) (zeros-long (openingWords s)) leaf siblings n
     (zeros (s .width)) (zeros (s .width)) (zeros-long (s .width)) (zeros-long (s .width)) .0 v in
     record { first = _; second = _; rows = rows-of _ _ _ _ (C .answered); differ = C .differ; alike = C .alike }
 

@@ -4,7 +4,6 @@ use mathlib.Core.Logic.{_≢_, _↔_}
 use mathlib.Core.List.{List, [], _∷_}
 use Prim.Native.Nat.{ℕ, _<_}
 use lib.ListN.{length}
-use Rattle.modular.specs.Goldilocks.{p}
 use Rattle.refusals.specs.Table.{Reply, done}
 use Rattle.parameters.specs.declared.ParameterSet.{ParameterSet}
 use Rattle.merkle.specs.Levels.{root}
@@ -24,33 +23,33 @@ Typed (push rs ∷ cs) = SixWords rs × Typed cs
 
 -- the root that a store has
 abbrev pub rootOf : ParameterSet → List ℕ → List ℕ
-rootOf s store = root (treeOf p s) store
+rootOf s store = root (treeOf s) store
 
 -- What holds after a list of calls, of the store and the answers that it left and of the book's leaves and answers.
 pub record Faithful (s : ParameterSet) (left : Ran) (book : List ℕ) (answers : List Reply) : Type 0 where
   -- Building from the book's leaves, into any buffer of the exact length, is not refused and writes the store that was left.
-  pub stored : (buffer : List ℕ) → length buffer ≡ storeWords p s
-      → (buildReply p s book buffer ≡ done []) × (left .store ≡ built p s book buffer)
+  pub stored : (buffer : List ℕ) → length buffer ≡ storeWords s
+      → (buildReply s book buffer ≡ done []) × (left .store ≡ built s book buffer)
   -- The answers are the book's, in order.
   pub answered : left .answers ≡ answers
   -- For every place the opening is written, and with it the book's leaf is accepted under the store's root.
-  pub own : (q : ℕ) → q < leafCount p s → (buffer : List ℕ) → length buffer ≡ openingWords p s
-      → (openReply p s (left .store) q buffer ≡ done [])
-      × (verifyReply p s (rootOf s (left .store)) q (leafAt s q book) (opened p s (left .store) q buffer) ≡ done (1 ∷ []))
+  pub own : (q : ℕ) → q < leafCount s → (buffer : List ℕ) → length buffer ≡ openingWords s
+      → (openReply s (left .store) q buffer ≡ done [])
+      × (verifyReply s (rootOf s (left .store)) q (leafAt s q book) (opened s (left .store) q buffer) ≡ done (1 ∷ []))
   -- Any list of numbers but the book's leaf is accepted, with any siblings, exactly where extraction gives a collision: it is handed that list
   -- with its siblings first, and the book's leaf with the opening of the place second.
-  pub other : (q : ℕ) → q < leafCount p s → (buffer : List ℕ) → length buffer ≡ openingWords p s
+  pub other : (q : ℕ) → q < leafCount s → (buffer : List ℕ) → length buffer ≡ openingWords s
       → (leaf siblings : List ℕ)
       → leaf ≢ leafAt s q book
       → (first second : List ℕ) → length first ≡ s .width → length second ≡ s .width
-      → (verifyReply p s (rootOf s (left .store)) q leaf siblings ≡ done (1 ∷ []))
+      → (verifyReply s (rootOf s (left .store)) q leaf siblings ≡ done (1 ∷ []))
       ↔ Collides s
-      (pair (rootOf s (left .store)) q leaf siblings (leafAt s q book) (opened p s (left .store) q buffer))
+      (pair (rootOf s (left .store)) q leaf siblings (leafAt s q book) (opened s (left .store) q buffer))
       first second
 
 -- For every set, leaves and buffer with which building is not refused (Rules 6.1), and every list of calls.
 abbrev pub Demand3 : Type 0
 Demand3 =
-    (s : ParameterSet) (leaves buffer : List ℕ) → buildReply p s leaves buffer ≡ done []
+    (s : ParameterSet) (leaves buffer : List ℕ) → buildReply s leaves buffer ≡ done []
     → (calls : List Call) → Typed calls
-    → Faithful s (run p s calls (built p s leaves buffer)) (bookLeaves p s calls leaves) (bookAnswers p s calls)
+    → Faithful s (run s calls (built s leaves buffer)) (bookLeaves s calls leaves) (bookAnswers s calls)

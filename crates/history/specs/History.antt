@@ -13,14 +13,14 @@ pub record Ran : Type 0 where
   pub store : List ℕ
   pub answers : List Reply
 
-module _ (p : ℕ) (s : ParameterSet) where
+module _ (s : ParameterSet) where
   unfoldable pub callReply : Call → List ℕ → Reply
-  callReply (replacement q leaf) store = replaceReply p s store q leaf
-  callReply (push rs) store = pushReply p s store rs
+  callReply (replacement q leaf) store = replaceReply s store q leaf
+  callReply (push rs) store = pushReply s store rs
 
   unfoldable pub callStore : Call → List ℕ → List ℕ
-  callStore (replacement q leaf) store = replaced p s store q leaf
-  callStore (push rs) store = pushed p s store rs
+  callStore (replacement q leaf) store = replaced s store q leaf
+  callStore (push rs) store = pushed s store rs
 
   unfoldable pub run : List Call → List ℕ → Ran
   run [] store = record { store = store; answers = [] }

@@ -5,7 +5,6 @@ use mathlib.Core.List.{List, [], _∷_, _++_}
 use Prim.Native.Nat.{ℕ, _<_}
 use lib.Dec.{eqb}
 use lib.ListN.{length}
-use Rattle.modular.specs.Goldilocks.{p}
 use Rattle.refusals.specs.Table.{Reply, refused, done}
 use Rattle.parameters.specs.declared.ParameterSet.{ParameterSet}
 use Rattle.merkle.specs.Replacement.{Change}
@@ -26,9 +25,9 @@ ifAccepted (refused n) changes = []
 ifAccepted (done result) changes = changes
 
 -- those that a list of calls brought and the book accepted, in order
-unfoldable pub accepted : ℕ → ParameterSet → List Call → List Change
-accepted p s [] = []
-accepted p s (c ∷ cs) = ifAccepted (bookReply p s c) (brought s c) ++ accepted p s cs
+unfoldable pub accepted : ParameterSet → List Call → List Change
+accepted s [] = []
+accepted s (c ∷ cs) = ifAccepted (bookReply s c) (brought s c) ++ accepted s cs
 
 -- the last leaf for the place q, and where there is none the given one
 unfoldable pub lastFor : ℕ → List ℕ → List Change → List ℕ
@@ -37,11 +36,11 @@ lastFor q given (c ∷ cs) = lastFor q (cond (eqb (c .place) q) (c .leaf) given)
 
 pub record IsLatest (s : ParameterSet) (leaves book : List ℕ) (changes : List Change) : Type 0 where
   -- all leaves are there, and no more
-  pub whole : length book ≡ leafWords p s
-  pub each : (q : ℕ) → q < leafCount p s → leafAt s q book ≡ lastFor q (leafAt s q leaves) changes
+  pub whole : length book ≡ leafWords s
+  pub each : (q : ℕ) → q < leafCount s → leafAt s q book ≡ lastFor q (leafAt s q leaves) changes
 
 abbrev pub Latest : Type 0
 Latest =
-    (s : ParameterSet) (leaves buffer : List ℕ) → buildReply p s leaves buffer ≡ done []
+    (s : ParameterSet) (leaves buffer : List ℕ) → buildReply s leaves buffer ≡ done []
     → (calls : List Call) → Typed calls
-    → IsLatest s leaves (bookLeaves p s calls leaves) (accepted p s calls)
+    → IsLatest s leaves (bookLeaves s calls leaves) (accepted s calls)

@@ -5,6 +5,7 @@ use Prim.Native.Nat.{ℕ, _*_}
 use lib.Dec.{ltb}
 use lib.ListN.{length}
 use Rattle.refusals.specs.Table.{Refusal, refusal, notWords, Reply, reply, after}
+use Rattle.parameters.specs.ParameterSet.{primeOf}
 use Rattle.parameters.specs.declared.ParameterSet.{ParameterSet}
 use Rattle.merkle.specs.Lists.{part, put}
 use Rattle.trees.specs.SetTrees.{leafCount}
@@ -31,18 +32,18 @@ enterAll s [] book = book
 enterAll s (r ∷ rs) book = enterAll s rs (enter s (r .place) (leafOf (s .«node_size») r) book)
 
 -- Nothing here has a store or an entry's answer for an argument (Rules 6.3). Of the set, l, k^h and h are read.
-module _ (p : ℕ) (s : ParameterSet) where
+module _ (s : ParameterSet) where
   -- What the book refuses: of a replacement its leaf's length, its place and its leaf's words (Rules 6.4); of a push its length, its places
   -- and its leaves' words (Rules 6.5).
   unfoldable pub bookRefusals : Call → List Refusal
   bookRefusals (replacement q leaf) =
       refusal 10 (not (has leaf (s .«node_size»))) ∷
-      refusal 11 (not (ltb q (leafCount p s))) ∷
-      notWords p leaf ∷ []
+      refusal 11 (not (ltb q (leafCount s))) ∷
+      notWords (primeOf s) leaf ∷ []
   bookRefusals (push rs) =
       refusal 10 (not (fewRecords rs)) ∷
-      refusal 11 (not (placesBelow (leafCount p s) rs)) ∷
-      notWords p (usedWords (s .«node_size») rs) ∷ []
+      refusal 11 (not (placesBelow (leafCount s) rs)) ∷
+      notWords (primeOf s) (usedWords (s .«node_size») rs) ∷ []
 
   -- What it enters where it refuses nothing, and what it then answers: h for each leaf.
   unfoldable pub entered : Call → List ℕ → List ℕ

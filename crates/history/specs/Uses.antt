@@ -6,8 +6,8 @@ use mathlib.Core.List.{List, [], _∷_}
 use Prim.Native.Nat.{ℕ, _*_, _^_, _≤_, _<_}
 use lib.ListN.{length}
 use Rattle.modular.specs.Arithmetic.{allWords}
-use Rattle.modular.specs.Goldilocks.{p}
 use Rattle.refusals.specs.Table.{done}
+use Rattle.parameters.specs.ParameterSet.{primeOf}
 use Rattle.parameters.specs.declared.ParameterSet.{ParameterSet}
 use Rattle.merkle.specs.Storeless.{storelessRoot}
 use Rattle.state_entries.specs.Permutation.{compressUnder}
@@ -24,27 +24,27 @@ use Rattle.history.specs.Demand3.{Typed, rootOf}
 -- whatever list of calls is done on whatever built store, with what it left and the book's leaves
 abbrev pub AfterCalls : (ParameterSet → Ran → List ℕ → Type 0) → Type 0
 AfterCalls P =
-    (s : ParameterSet) (leaves buffer : List ℕ) → buildReply p s leaves buffer ≡ done []
-    → (calls : List Call) → Typed calls → P s (run p s calls (built p s leaves buffer)) (bookLeaves p s calls leaves)
+    (s : ParameterSet) (leaves buffer : List ℕ) → buildReply s leaves buffer ≡ done []
+    → (calls : List Call) → Typed calls → P s (run s calls (built s leaves buffer)) (bookLeaves s calls leaves)
 
 -- The root is the storeless root of the book's leaves.
 abbrev pub RootOfBook : Type 0
-RootOfBook = AfterCalls (λ s left book. rootOf s (left .store) ≡ storelessRoot (treeOf p s) (s .height) book)
+RootOfBook = AfterCalls (λ s left book. rootOf s (left .store) ≡ storelessRoot (treeOf s) (s .height) book)
 
 -- A push that nothing refuses answers h for each record, and a replacement h.
 abbrev pub Counts : Type 0
 Counts =
-    (s : ParameterSet) (leaves buffer : List ℕ) → buildReply p s leaves buffer ≡ done []
-    → (rs : List Record) → SixWords rs → length rs ≤ 2 ^ 32 → placesBelow (leafCount p s) rs ≡ true → allWords p (usedWords (s .«node_size») rs) ≡ true
-    → (q : ℕ) (leaf : List ℕ) → length leaf ≡ s .«node_size» → q < leafCount p s → allWords p leaf ≡ true
-    → run p s (push rs ∷ replacement q leaf ∷ []) (built p s leaves buffer) .answers ≡ done (s .height * length rs ∷ []) ∷ done (s .height ∷ []) ∷ []
+    (s : ParameterSet) (leaves buffer : List ℕ) → buildReply s leaves buffer ≡ done []
+    → (rs : List Record) → SixWords rs → length rs ≤ 2 ^ 32 → placesBelow (leafCount s) rs ≡ true → allWords (primeOf s) (usedWords (s .«node_size») rs) ≡ true
+    → (q : ℕ) (leaf : List ℕ) → length leaf ≡ s .«node_size» → q < leafCount s → allWords (primeOf s) leaf ≡ true
+    → run s (push rs ∷ replacement q leaf ∷ []) (built s leaves buffer) .answers ≡ done (s .height * length rs ∷ []) ∷ done (s .height ∷ []) ∷ []
 
 -- Under the storeless root of the book's leaves each of them is accepted, with the opening of its place.
 abbrev pub OwnAccepted : Type 0
 OwnAccepted =
     AfterCalls (λ s left book.
-    (q : ℕ) → q < leafCount p s → (buffer : List ℕ) → length buffer ≡ openingWords p s
-    → verifyReply p s (storelessRoot (treeOf p s) (s .height) book) q (leafAt s q book) (opened p s (left .store) q buffer) ≡ done (1 ∷ []))
+    (q : ℕ) → q < leafCount s → (buffer : List ℕ) → length buffer ≡ openingWords s
+    → verifyReply s (storelessRoot (treeOf s) (s .height) book) q (leafAt s q book) (opened s (left .store) q buffer) ≡ done (1 ∷ []))
 
 -- two different rows that compress alike
 pub record RowCollision (s : ParameterSet) : Type 0 where
@@ -52,24 +52,24 @@ pub record RowCollision (s : ParameterSet) : Type 0 where
   pub second : List ℕ
   pub rows : IsRow s first × IsRow s second
   pub differ : first ≢ second
-  pub alike : compressUnder p s first ≡ compressUnder p s second
+  pub alike : compressUnder s first ≡ compressUnder s second
 
 -- Another leaf is accepted at the price of such rows alone.
 abbrev pub OtherCollides : Type 0
 OtherCollides =
     AfterCalls (λ s left book.
-    (q : ℕ) → q < leafCount p s → (leaf siblings : List ℕ) → leaf ≢ leafAt s q book
-    → verifyReply p s (rootOf s (left .store)) q leaf siblings ≡ done (1 ∷ [])
+    (q : ℕ) → q < leafCount s → (leaf siblings : List ℕ) → leaf ≢ leafAt s q book
+    → verifyReply s (rootOf s (left .store)) q leaf siblings ≡ done (1 ∷ [])
     → RowCollision s)
 
 -- For another leaf that is not accepted extraction gives no such rows.
 abbrev pub OnlyAccepted : Type 0
 OnlyAccepted =
     AfterCalls (λ s left book.
-    (q : ℕ) → q < leafCount p s → (leaf siblings : List ℕ) → leaf ≢ leafAt s q book
-    → verifyReply p s (rootOf s (left .store)) q leaf siblings ≢ done (1 ∷ [])
-    → (buffer first second : List ℕ) → length buffer ≡ openingWords p s → length first ≡ s .width → length second ≡ s .width
-    → Collides s (pair (rootOf s (left .store)) q leaf siblings (leafAt s q book) (opened p s (left .store) q buffer)) first second → ⊥)
+    (q : ℕ) → q < leafCount s → (leaf siblings : List ℕ) → leaf ≢ leafAt s q book
+    → verifyReply s (rootOf s (left .store)) q leaf siblings ≢ done (1 ∷ [])
+    → (buffer first second : List ℕ) → length buffer ≡ openingWords s → length first ≡ s .width → length second ≡ s .width
+    → Collides s (pair (rootOf s (left .store)) q leaf siblings (leafAt s q book) (opened s (left .store) q buffer)) first second → ⊥)
 
 pub record Uses : Type 0 where
   pub root : RootOfBook

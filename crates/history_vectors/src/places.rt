@@ -1,5 +1,4 @@
 // Each place's own opening, the verdict on its leaf with it, and its parts.
-use field::P;
 use harness::answers;
 use harness::entries;
 use harness::lists;
@@ -53,7 +52,7 @@ fn print_readings(set: ParameterSet, opening: [u64; 1024], count: usize) {
     print_levels(set, lists::part(&opening, count));
     output::text(b" spoilt");
     let mut spoilt = opening;
-    lists::put(&mut spoilt, 0, P);
+    lists::put(&mut spoilt, 0, fields::order());
     print_levels(set, lists::part(&spoilt, count));
     output::text(b" long");
     let longer = lists::clamped(wrapping_add_u64(count as u64, 1), 1024);

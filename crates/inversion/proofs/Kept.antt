@@ -6,16 +6,15 @@ use native.Mathlib.Omega.{arith}
 use lib.ListN.{length, getD, take, drop, replicate, length-map, length-take}
 use lib.Seq.{getD-take, take-at}
 use Rattle.modular.specs.Arithmetic.{sub, mul, inverse}
-use Rattle.modular.specs.Goldilocks.{p}
+use Rattle.fields.specs.Prime.{prime}
 use Rattle.modular.specs.Congruence.{_≈⟨_⟩_}
-use Rattle.modular.proofs.Goldilocks.{goldilocks-laws}
+use Rattle.fields.proofs.Prime.{positive, prime-laws}
 use Rattle.poseidon2.specs.Layers.{sum}
 use Rattle.poseidon2.specs.Inverse.{inverses, multiplesLess, subLists, unexternal, uninternal, unpartialRound, unfullRounds, unpartialRounds, unpermuteAt, unpermute}
 use Rattle.poseidon2.specs.Statements.{Words, AcceptedDiagonal}
 use Rattle.poseidon2.proofs.Words.{cons-eq, words-none, words-more, words-append, words-map}
 use Rattle.poseidon2.proofs.Rounds.{unpermute-at}
 use Rattle.inversion.specs.Kept.{keptInverses, totalInverse, uninternalBy, unpartialRoundBy, unpartialRoundsBy, unpermuteBy}
-use Rattle.inversion.proofs.Words.{positive}
 
 module _ {p t : ℕ} (D : List ℕ) (a : AcceptedDiagonal p t (take t D)) where
   pub nonzero-at : (i : ℕ) → i < t → 0 < getD D i 0
@@ -55,30 +54,30 @@ unfolding unpartialRoundsBy unpartialRoundBy unpartialRounds unpartialRound unin
 unpartialRounds-own p D zero cs ys = refl
 unpartialRounds-own p D (suc n) cs ys = ap (unpartialRound p D (getD cs 0 0)) (unpartialRounds-own p D n (drop 1 cs) ys)
 
-module _ {t : ℕ} (D : List ℕ) (a : AcceptedDiagonal p t (take t D)) where
-  kept-take : take t (keptInverses p t D) ≡ inverses p (take t D)
+module _ {t : ℕ} (D : List ℕ) (a : AcceptedDiagonal prime t (take t D)) where
+  kept-take : take t (keptInverses prime t D) ≡ inverses prime (take t D)
   unfolding keptInverses inverses
-  kept-take = take-at (inverses p (take t D)) (replicate (12 - t) 0) t (length-map (take t D) (inverse p) ∙ a .width)
+  kept-take = take-at (inverses prime (take t D)) (replicate (12 - t) 0) t (length-map (take t D) (inverse prime) ∙ a .width)
 
-  pub kept-words : Words p (keptInverses p t D)
+  pub kept-words : Words prime (keptInverses prime t D)
   unfolding keptInverses inverses
   kept-words =
-      words-append positive (inverses p (take t D)) (replicate (12 - t) 0) (words-map positive (inverse p) (goldilocks-laws .inverses .word) (take t D)) (zeros (12 - t))
+      words-append positive (inverses prime (take t D)) (replicate (12 - t) 0) (words-map positive (inverse prime) (prime-laws .inverses .word) (take t D)) (zeros (12 - t))
     where
-      zeros : (n : ℕ) → Words p (replicate n 0)
+      zeros : (n : ℕ) → Words prime (replicate n 0)
       zeros zero = words-none positive
       zeros (suc n) = words-more positive positive (zeros n)
 
-  pub kept-sum : 0 < (1 + sum (take t (keptInverses p t D))) % p
-  kept-sum = subst (λ (es : List ℕ). 0 < (1 + sum es) % p) (sym kept-take) (a .sumNonzero)
+  pub kept-sum : 0 < (1 + sum (take t (keptInverses prime t D))) % prime
+  kept-sum = subst (λ (es : List ℕ). 0 < (1 + sum es) % prime) (sym kept-take) (a .sumNonzero)
 
   -- with them it is the inverse permutation
   pub kept-unpermute : (half rp : ℕ) (C ys : List ℕ) → length ys ≡ t
-      → unpermuteBy p t half rp (keptInverses p t D) (totalInverse p t (keptInverses p t D)) C ys ≡ unpermute p half rp D C ys
+      → unpermuteBy prime t half rp (keptInverses prime t D) (totalInverse prime t (keptInverses prime t D)) C ys ≡ unpermute prime half rp D C ys
   unfolding unpermuteBy unpermuteAt totalInverse
   kept-unpermute half rp C ys l =
-      let zs : List ℕ = unfullRounds p t half (drop (t * half + rp) C) ys in
-      ap (λ (xs : List ℕ). unexternal p (unfullRounds p t half C xs))
-      (ap (λ (es : List ℕ). unpartialRoundsBy p es (inverse p ((1 + sum es) % p)) rp (drop (t * half) C) zs) kept-take
-      ∙ unpartialRounds-own p (take t D) rp (drop (t * half) C) zs)
-      ∙ sym (unpermute-at p t half rp D C ys l)
+      let zs : List ℕ = unfullRounds prime t half (drop (t * half + rp) C) ys in
+      ap (λ (xs : List ℕ). unexternal prime (unfullRounds prime t half C xs))
+      (ap (λ (es : List ℕ). unpartialRoundsBy prime es (inverse prime ((1 + sum es) % prime)) rp (drop (t * half) C) zs) kept-take
+      ∙ unpartialRounds-own prime (take t D) rp (drop (t * half) C) zs)
+      ∙ sym (unpermute-at prime t half rp D C ys l)

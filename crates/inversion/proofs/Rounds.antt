@@ -7,7 +7,7 @@ use native.Mathlib.Omega.{arith}
 use lib.ListN.{length, getD, take, drop, set, length-map}
 use lib.Seq.{drop-drop}
 use Rattle.modular.specs.Arithmetic.{sub, seventhRoot}
-use Rattle.modular.specs.Goldilocks.{p}
+use Rattle.fields.specs.Prime.{prime}
 use Rattle.poseidon2.specs.Inverse.{subLists, seventhRoots, unexternal, unraiseFirst, unfullRound, unfullRounds}
 use Rattle.poseidon2.specs.Statements.{Width, State}
 use Rattle.poseidon2.proofs.External.{by-width}
@@ -29,7 +29,7 @@ round-fits t m i n e h l =
     let b : t * i ≤ t * n = mul-le-mul {n₁ = t} {m₁ = i} {n₂ = t} {m₂ = n} (omega arith) l in
     rw e (omega (arith, place-before t i h))
 
-pub fewer-words : {m n : ℕ} {C : List ℕ} → WordsBelow p n C → m ≤ n → WordsBelow p m C
+pub fewer-words : {m n : ℕ} {C : List ℕ} → WordsBelow prime n C → m ≤ n → WordsBelow prime m C
 fewer-words w h = record { at = λ i l. w .at i (omega arith) }
 
 -- a width is small
@@ -38,31 +38,31 @@ width-small w = by-width (λ t. (4 ≤ t) × (t ≤ 12)) w (omega arith, omega a
 
 -- the rounds from i on are undone
 abbrev pub fullFrom : ℕ → List ℕ → ℕ → ℕ → List ℕ → ℕ → List ℕ
-fullFrom t C at rounds xs i = unfullRounds p t (rounds - i) (drop (at + t * i) C) xs
+fullFrom t C at rounds xs i = unfullRounds prime t (rounds - i) (drop (at + t * i) C) xs
 
 module _ (t : ℕ) (C : List ℕ) (at rounds : ℕ) (xs : List ℕ) where
   pub full-none : xs ≡ fullFrom t C at rounds xs rounds
   unfolding unfullRounds
   full-none =
       let z : rounds - rounds ≡ 0 = omega arith in
-      sym (ap (λ (n : ℕ). unfullRounds p t n (drop (at + t * rounds) C) xs) z)
+      sym (ap (λ (n : ℕ). unfullRounds prime t n (drop (at + t * rounds) C) xs) z)
 
-  pub full-all : fullFrom t C at rounds xs 0 ≡ unfullRounds p t rounds (drop at C) xs
-  full-all = ap₂ (λ (m n : ℕ). unfullRounds p t m (drop n C) xs) (sub-zero rounds) (ap (λ (n : ℕ). at + n) (mul-zero t) ∙ add-zero at)
+  pub full-all : fullFrom t C at rounds xs 0 ≡ unfullRounds prime t rounds (drop at C) xs
+  full-all = ap₂ (λ (m n : ℕ). unfullRounds prime t m (drop n C) xs) (sub-zero rounds) (ap (λ (n : ℕ). at + n) (mul-zero t) ∙ add-zero at)
 
-  pub full-more : (i : ℕ) (st : List ℕ) → Width t → 0 < i → i ≤ rounds → State p t st → st ≡ fullFrom t C at rounds xs i
-      → subLists p (seventhRoots p (unexternal p st)) (drop (at + t * (i - 1)) C) ≡ fullFrom t C at rounds xs (i - 1)
+  pub full-more : (i : ℕ) (st : List ℕ) → Width t → 0 < i → i ≤ rounds → State prime t st → st ≡ fullFrom t C at rounds xs i
+      → subLists prime (seventhRoots prime (unexternal prime st)) (drop (at + t * (i - 1)) C) ≡ fullFrom t C at rounds xs (i - 1)
   unfolding unfullRounds unfullRound seventhRoots
   full-more i st w h l s e =
       let cs : List ℕ = drop (at + t * (i - 1)) C in
-      let long : length (seventhRoots p (unexternal p st)) ≡ t = length-map (unexternal p st) (seventhRoot p) ∙ unexternal-state w s .width in
+      let long : length (seventhRoots prime (unexternal prime st)) ≡ t = length-map (unexternal prime st) (seventhRoot prime) ∙ unexternal-state w s .width in
       let next : at + t * (i - 1) + t ≡ at + t * i = omega (arith, place-before t i h) in
       let rest : drop (at + t * i) C ≡ drop t cs = sym (drop-drop t (at + t * (i - 1)) C ∙ ap (λ (n : ℕ). drop n C) next) in
       let n : suc (rounds - i) ≡ rounds - (i - 1) = omega arith in
-      sym (subLists-take p (seventhRoots p (unexternal p st)) cs)
-      ∙ ap (λ (m : ℕ). subLists p (seventhRoots p (unexternal p st)) (take m cs)) long
-      ∙ ap (unfullRound p (take t cs)) (e ∙ ap (λ (ds : List ℕ). unfullRounds p t (rounds - i) ds xs) rest)
-      ∙ ap (λ (m : ℕ). unfullRounds p t m cs xs) n
+      sym (subLists-take prime (seventhRoots prime (unexternal prime st)) cs)
+      ∙ ap (λ (m : ℕ). subLists prime (seventhRoots prime (unexternal prime st)) (take m cs)) long
+      ∙ ap (unfullRound prime (take t cs)) (e ∙ ap (λ (ds : List ℕ). unfullRounds prime t (rounds - i) ds xs) rest)
+      ∙ ap (λ (m : ℕ). unfullRounds prime t m cs xs) n
 
 -- word 0 alone
 first-set : (q c : ℕ) (st : List ℕ) → set st 0 (sub q (seventhRoot q (getD st 0 0)) c) ≡ unraiseFirst q c st
@@ -71,21 +71,21 @@ first-set q c [] = refl
 first-set q c (x ∷ st) = refl
 
 abbrev pub partialFrom : List ℕ → ℕ → List ℕ → ℕ → ℕ → List ℕ → ℕ → List ℕ
-partialFrom es k C at rounds xs i = unpartialRoundsBy p es k (rounds - i) (drop (at + i) C) xs
+partialFrom es k C at rounds xs i = unpartialRoundsBy prime es k (rounds - i) (drop (at + i) C) xs
 
 module _ (es : List ℕ) (k : ℕ) (C : List ℕ) (at rounds : ℕ) (xs : List ℕ) where
   pub partial-none : xs ≡ partialFrom es k C at rounds xs rounds
   unfolding unpartialRoundsBy
   partial-none =
       let z : rounds - rounds ≡ 0 = omega arith in
-      sym (ap (λ (n : ℕ). unpartialRoundsBy p es k n (drop (at + rounds) C) xs) z)
+      sym (ap (λ (n : ℕ). unpartialRoundsBy prime es k n (drop (at + rounds) C) xs) z)
 
-  pub partial-all : partialFrom es k C at rounds xs 0 ≡ unpartialRoundsBy p es k rounds (drop at C) xs
-  partial-all = ap₂ (λ (m n : ℕ). unpartialRoundsBy p es k m (drop n C) xs) (sub-zero rounds) (add-zero at)
+  pub partial-all : partialFrom es k C at rounds xs 0 ≡ unpartialRoundsBy prime es k rounds (drop at C) xs
+  partial-all = ap₂ (λ (m n : ℕ). unpartialRoundsBy prime es k m (drop n C) xs) (sub-zero rounds) (add-zero at)
 
   pub partial-more : (i : ℕ) (st : List ℕ) (v : ℕ) → 0 < i → i ≤ rounds → st ≡ partialFrom es k C at rounds xs i
-      → v ≡ sub p (seventhRoot p (getD (uninternalBy p es k st) 0 0)) (getD C (at + (i - 1)) 0)
-      → set (uninternalBy p es k st) 0 v ≡ partialFrom es k C at rounds xs (i - 1)
+      → v ≡ sub prime (seventhRoot prime (getD (uninternalBy prime es k st) 0 0)) (getD C (at + (i - 1)) 0)
+      → set (uninternalBy prime es k st) 0 v ≡ partialFrom es k C at rounds xs (i - 1)
   unfolding unpartialRoundsBy unpartialRoundBy
   partial-more i st v h l e g =
       let j : ℕ = at + (i - 1) in
@@ -93,31 +93,31 @@ module _ (es : List ℕ) (k : ℕ) (C : List ℕ) (at rounds : ℕ) (xs : List �
       let next : suc (at + (i - 1)) ≡ at + i = omega arith in
       let rest : drop (at + i) C ≡ drop 1 cs = sym (rest-at C j ∙ ap (λ (n : ℕ). drop n C) next) in
       let n : suc (rounds - i) ≡ rounds - (i - 1) = omega arith in
-      ap (set (uninternalBy p es k st) 0) g
-      ∙ first-set p (getD C j 0) (uninternalBy p es k st)
-      ∙ ap₂ (λ (c : ℕ) (ys : List ℕ). unraiseFirst p c (uninternalBy p es k ys)) (sym (first-at C j)) (e ∙ ap (λ (ds : List ℕ). unpartialRoundsBy p es k (rounds - i) ds xs) rest)
-      ∙ ap (λ (m : ℕ). unpartialRoundsBy p es k m cs xs) n
+      ap (set (uninternalBy prime es k st) 0) g
+      ∙ first-set prime (getD C j 0) (uninternalBy prime es k st)
+      ∙ ap₂ (λ (c : ℕ) (ys : List ℕ). unraiseFirst prime c (uninternalBy prime es k ys)) (sym (first-at C j)) (e ∙ ap (λ (ds : List ℕ). unpartialRoundsBy prime es k (rounds - i) ds xs) rest)
+      ∙ ap (λ (m : ℕ). unpartialRoundsBy prime es k m cs xs) n
 
 -- ---- the calls one after the other
 
 -- what a call leaves is a state of the same width
-pub full-step : {t : ℕ} {x : List ℕ} (n : ℕ) (cs y : List ℕ) → Width t → State p t x → y ≡ unfullRounds p (length x) n cs x
-    → (y ≡ unfullRounds p t n cs x) × State p t y
+pub full-step : {t : ℕ} {x : List ℕ} (n : ℕ) (cs y : List ℕ) → Width t → State prime t x → y ≡ unfullRounds prime (length x) n cs x
+    → (y ≡ unfullRounds prime t n cs x) × State prime t y
 full-step {t} {x} n cs y w s e =
-    let q : y ≡ unfullRounds p t n cs x = e ∙ ap (λ (m : ℕ). unfullRounds p m n cs x) (s .width) in
-    (q, subst (State p t) (sym q) (unfullRounds-state n cs x w s))
+    let q : y ≡ unfullRounds prime t n cs x = e ∙ ap (λ (m : ℕ). unfullRounds prime m n cs x) (s .width) in
+    (q, subst (State prime t) (sym q) (unfullRounds-state n cs x w s))
 
-pub internal-step : {t : ℕ} {x : List ℕ} (es : List ℕ) (k : ℕ) (y : List ℕ) → State p t x → y ≡ uninternalBy p (take (length x) es) k x
-    → (y ≡ uninternalBy p (take t es) k x) × State p t y
+pub internal-step : {t : ℕ} {x : List ℕ} (es : List ℕ) (k : ℕ) (y : List ℕ) → State prime t x → y ≡ uninternalBy prime (take (length x) es) k x
+    → (y ≡ uninternalBy prime (take t es) k x) × State prime t y
 internal-step {t} {x} es k y s e =
-    let q : y ≡ uninternalBy p (take t es) k x = e ∙ ap (λ (m : ℕ). uninternalBy p (take m es) k x) (s .width) in
-    (q, subst (State p t) (sym q) (uninternalBy-state (take t es) k s))
+    let q : y ≡ uninternalBy prime (take t es) k x = e ∙ ap (λ (m : ℕ). uninternalBy prime (take m es) k x) (s .width) in
+    (q, subst (State prime t) (sym q) (uninternalBy-state (take t es) k s))
 
-pub partial-step : {t : ℕ} {x : List ℕ} (es : List ℕ) (k n : ℕ) (cs y : List ℕ) → State p t x → y ≡ unpartialRoundsBy p (take (length x) es) k n cs x
-    → (y ≡ unpartialRoundsBy p (take t es) k n cs x) × State p t y
+pub partial-step : {t : ℕ} {x : List ℕ} (es : List ℕ) (k n : ℕ) (cs y : List ℕ) → State prime t x → y ≡ unpartialRoundsBy prime (take (length x) es) k n cs x
+    → (y ≡ unpartialRoundsBy prime (take t es) k n cs x) × State prime t y
 partial-step {t} {x} es k n cs y s e =
-    let q : y ≡ unpartialRoundsBy p (take t es) k n cs x = e ∙ ap (λ (m : ℕ). unpartialRoundsBy p (take m es) k n cs x) (s .width) in
-    (q, subst (State p t) (sym q) (unpartialRoundsBy-state (take t es) k n cs x s))
+    let q : y ≡ unpartialRoundsBy prime (take t es) k n cs x = e ∙ ap (λ (m : ℕ). unpartialRoundsBy prime (take m es) k n cs x) (s .width) in
+    (q, subst (State prime t) (sym q) (unpartialRoundsBy-state (take t es) k n cs x s))
 
 -- the constants' places fit
 pub halves : {t : ℕ} (m half : ℕ) → Width t → m ≡ t → half ≤ 6 → (m * half ≡ t * half) × (t * half ≤ 72) × (t * (2 * half) ≡ t * half + t * half)

@@ -1,13 +1,12 @@
--- Sums, differences and products modulo p, and lists of them, are words.
+-- Sums, differences and products modulo prime, and lists of them, are words.
 use mathlib.Core.Path.{_≡_, refl, sym, ap, subst, _∙_}
 use mathlib.Core.List.{List, [], _∷_}
 use Prim.Native.Nat.{ℕ, zero, suc, _+_, _*_, _-_, _%_, _<_}
 use native.Mathlib.Nat.{mod-lt}
-use lib.Dec.{lit<}
 use lib.ListN.{length, getD, take, drop, length-map}
 use Rattle.modular.specs.Arithmetic.{add, sub, mul, seventhRoot}
-use Rattle.modular.specs.Goldilocks.{p}
-use Rattle.modular.proofs.Goldilocks.{goldilocks, goldilocks-laws}
+use Rattle.fields.specs.Prime.{prime}
+use Rattle.fields.proofs.Prime.{positive, prime-field, prime-laws}
 use Rattle.poseidon2.specs.Layers.{dot}
 use Rattle.poseidon2.specs.Inverse.{scaled, multiplesLess, seventhRoots, unexternal, unraiseFirst, unfullRound, unfullRounds}
 use Rattle.poseidon2.specs.Statements.{Width, Words, State}
@@ -15,77 +14,74 @@ use Rattle.poseidon2.proofs.Words.{words-tail, words-none, words-more, words-ma
 use Rattle.poseidon2.proofs.Rounds.{invertible}
 use Rattle.inversion.specs.Kept.{uninternalBy, unpartialRoundBy, unpartialRoundsBy}
 
-pub positive : 0 < p
-positive = lit< tt
-
-pub add-word : (a b : ℕ) → add p a b < p
+pub add-word : (a b : ℕ) → add prime a b < prime
 unfolding add
 add-word a b = mod-lt (a + b) positive
 
-pub mul-word : (a b : ℕ) → mul p a b < p
+pub mul-word : (a b : ℕ) → mul prime a b < prime
 unfolding mul
 mul-word a b = mod-lt (a * b) positive
 
-pub sub-word : (a b : ℕ) → sub p a b < p
+pub sub-word : (a b : ℕ) → sub prime a b < prime
 unfolding sub
-sub-word a b = mod-lt (a + (p - b % p)) positive
+sub-word a b = mod-lt (a + (prime - b % prime)) positive
 
-pub root-word : (y : ℕ) → seventhRoot p y < p
-root-word y = goldilocks-laws .seventhRoots .word y
+pub root-word : (y : ℕ) → seventhRoot prime y < prime
+root-word y = prime-laws .seventhRoots .word y
 
-pub unexternal-state : {t : ℕ} {ys : List ℕ} → Width t → State p t ys → State p t (unexternal p ys)
-unexternal-state {t} {ys} w s = invertible goldilocks .externalLayer t w .from ys s
+pub unexternal-state : {t : ℕ} {ys : List ℕ} → Width t → State prime t ys → State prime t (unexternal prime ys)
+unexternal-state {t} {ys} w s = invertible prime-field .externalLayer t w .from ys s
 
-pub unexternal-step : {t : ℕ} {x y : List ℕ} → Width t → State p t x → y ≡ unexternal p x → State p t y
-unexternal-step {t} w s e = subst (State p t) (sym e) (unexternal-state w s)
+pub unexternal-step : {t : ℕ} {x y : List ℕ} → Width t → State prime t x → y ≡ unexternal prime x → State prime t y
+unexternal-step {t} w s e = subst (State prime t) (sym e) (unexternal-state w s)
 
-pub unfullRound-state : {t : ℕ} {ys : List ℕ} (cs : List ℕ) → Width t → State p t ys → State p t (unfullRound p cs ys)
+pub unfullRound-state : {t : ℕ} {ys : List ℕ} (cs : List ℕ) → Width t → State prime t ys → State prime t (unfullRound prime cs ys)
 unfolding unfullRound seventhRoots
 unfullRound-state {t} {ys} cs w s =
-    let u : State p t (unexternal p ys) = unexternal-state w s in
+    let u : State prime t (unexternal prime ys) = unexternal-state w s in
     record {
-      width = subLists-length p (seventhRoots p (unexternal p ys)) cs ∙ length-map (unexternal p ys) (seventhRoot p) ∙ u .width;
-      words = subLists-words positive (seventhRoots p (unexternal p ys)) cs;
+      width = subLists-length prime (seventhRoots prime (unexternal prime ys)) cs ∙ length-map (unexternal prime ys) (seventhRoot prime) ∙ u .width;
+      words = subLists-words positive (seventhRoots prime (unexternal prime ys)) cs;
     }
 
 -- M_I undone gives words, whatever the inverses are
-multiplesLess-length : (s : ℕ) (es ys : List ℕ) → length (multiplesLess p s es ys) ≡ length ys
+multiplesLess-length : (s : ℕ) (es ys : List ℕ) → length (multiplesLess prime s es ys) ≡ length ys
 unfolding multiplesLess
 multiplesLess-length s es [] = refl
 multiplesLess-length s es (y ∷ ys) = ap suc (multiplesLess-length s (drop 1 es) ys)
 
-multiplesLess-words : (s : ℕ) (es ys : List ℕ) → Words p (multiplesLess p s es ys)
+multiplesLess-words : (s : ℕ) (es ys : List ℕ) → Words prime (multiplesLess prime s es ys)
 unfolding multiplesLess
 multiplesLess-words s es [] = words-none positive
-multiplesLess-words s es (y ∷ ys) = words-more positive (mul-word (getD es 0 0) (sub p y s)) (multiplesLess-words s (drop 1 es) ys)
+multiplesLess-words s es (y ∷ ys) = words-more positive (mul-word (getD es 0 0) (sub prime y s)) (multiplesLess-words s (drop 1 es) ys)
 
-pub uninternalBy-state : {t : ℕ} {ys : List ℕ} (es : List ℕ) (k : ℕ) → State p t ys → State p t (uninternalBy p es k ys)
+pub uninternalBy-state : {t : ℕ} {ys : List ℕ} (es : List ℕ) (k : ℕ) → State prime t ys → State prime t (uninternalBy prime es k ys)
 unfolding uninternalBy
 uninternalBy-state {t} {ys} es k s = record { width = multiplesLess-length (dot es ys * k) es ys ∙ s .width; words = multiplesLess-words (dot es ys * k) es ys }
 
-first-state : {t : ℕ} (c : ℕ) (ys : List ℕ) → State p t ys → State p t (unraiseFirst p c ys)
+first-state : {t : ℕ} (c : ℕ) (ys : List ℕ) → State prime t ys → State prime t (unraiseFirst prime c ys)
 unfolding unraiseFirst
 first-state c [] s = s
-first-state c (y ∷ ys) s = record { width = s .width; words = words-more positive (sub-word (seventhRoot p y) c) (words-tail (s .words)) }
+first-state c (y ∷ ys) s = record { width = s .width; words = words-more positive (sub-word (seventhRoot prime y) c) (words-tail (s .words)) }
 
-pub unpartialRoundBy-state : {t : ℕ} {ys : List ℕ} (es : List ℕ) (k c : ℕ) → State p t ys → State p t (unpartialRoundBy p es k c ys)
+pub unpartialRoundBy-state : {t : ℕ} {ys : List ℕ} (es : List ℕ) (k c : ℕ) → State prime t ys → State prime t (unpartialRoundBy prime es k c ys)
 unfolding unpartialRoundBy
-unpartialRoundBy-state {t} {ys} es k c s = first-state c (uninternalBy p es k ys) (uninternalBy-state es k s)
+unpartialRoundBy-state {t} {ys} es k c s = first-state c (uninternalBy prime es k ys) (uninternalBy-state es k s)
 
 -- the rounds keep states
-pub unfullRounds-state : {t : ℕ} (n : ℕ) (cs ys : List ℕ) → Width t → State p t ys → State p t (unfullRounds p t n cs ys)
+pub unfullRounds-state : {t : ℕ} (n : ℕ) (cs ys : List ℕ) → Width t → State prime t ys → State prime t (unfullRounds prime t n cs ys)
 unfolding unfullRounds
 unfullRounds-state zero cs ys w s = s
 unfullRounds-state {t} (suc n) cs ys w s = unfullRound-state (take t cs) w (unfullRounds-state n (drop t cs) ys w s)
 
-pub unpartialRoundsBy-state : {t : ℕ} (es : List ℕ) (k n : ℕ) (cs ys : List ℕ) → State p t ys → State p t (unpartialRoundsBy p es k n cs ys)
+pub unpartialRoundsBy-state : {t : ℕ} (es : List ℕ) (k n : ℕ) (cs ys : List ℕ) → State prime t ys → State prime t (unpartialRoundsBy prime es k n cs ys)
 unfolding unpartialRoundsBy
 unpartialRoundsBy-state es k zero cs ys s = s
 unpartialRoundsBy-state es k (suc n) cs ys s = unpartialRoundBy-state es k _ (unpartialRoundsBy-state es k n _ ys s)
 
-pub scaled-words : (k : ℕ) (xs : List ℕ) → Words p (scaled p k xs)
+pub scaled-words : (k : ℕ) (xs : List ℕ) → Words prime (scaled prime k xs)
 unfolding scaled
-scaled-words k xs = words-map positive (mul p k) (mul-word k) xs
+scaled-words k xs = words-map positive (mul prime k) (mul-word k) xs
 
-pub zero-words : Words p (0 ∷ 0 ∷ 0 ∷ 0 ∷ [])
+pub zero-words : Words prime (0 ∷ 0 ∷ 0 ∷ 0 ∷ [])
 zero-words = words-more positive positive (words-more positive positive (words-more positive positive (words-more positive positive (words-none positive))))

@@ -5,25 +5,16 @@ ghost use mathlib.Core.List.{[], _∷_, _++_, map};
 ghost use Prim.Native.Nat.{_+_, _/_, _%_, _≤_};
 ghost use lib.ListN.{length, take, drop};
 ghost use Rattle.modular.specs.Arithmetic.{inverse};
-ghost use Rattle.modular.specs.Goldilocks.{p};
+ghost use Rattle.fields.specs.Prime.{prime};
 ghost use Rattle.poseidon2.specs.Layers.{addLists, dot, blocks, joinBlocks, sumBlocks, addToEach};
 ghost use Rattle.poseidon2.specs.Inverse.{negative, scaled, unm4, unexternal};
 ghost use Rattle.poseidon2.specs.Statements.{Width, Words};
-use field::P;
-use field::product;
-use field::sum;
-
-// The inverse of 8.
-const EIGHTH: u64 = 16140901060737761281;
-
-// What stands for minus the inverses of 3 and of 4.
-const MINUS_THIRD: u64 = 6148914689804861440;
-
-const MINUS_QUARTER: u64 = 4611686017353646080;
+use fields::product;
+use fields::sum;
 
 // A row of a matrix times four numbers.
 fn row_times(a: u64, b: u64, c: u64, d: u64, x: [u64; 4]) -> u64
-    ensures { λ r. ⌜ r ≡ dot (a ∷ b ∷ c ∷ d ∷ []) x % p ⌝ }
+    ensures { λ r. ⌜ r ≡ dot (a ∷ b ∷ c ∷ d ∷ []) x % prime ⌝ }
 {
     let left = sum(product(a, x[0]), product(b, x[1]));
     let right = sum(product(c, x[2]), product(d, x[3]));
@@ -32,24 +23,26 @@ fn row_times(a: u64, b: u64, c: u64, d: u64, x: [u64; 4]) -> u64
 
 // M4 undone: its inverse has these entries over 8.
 fn unm4(x: [u64; 4]) -> [u64; 4]
-    ensures { λ r. ⌜ r ≡ unm4 p x ⌝ }
+    ensures { λ r. ⌜ r ≡ unm4 prime x ⌝ }
 {
-    let r0 = row_times(P - 1, 3, P - 6, 7, x);
-    let r1 = row_times(1, P - 1, 4, P - 5, x);
-    let r2 = row_times(P - 6, 7, P - 1, 3, x);
-    let r3 = row_times(4, P - 5, 1, P - 1, x);
+    let order = fields::order();
+    let eighth = fields::eighth();
+    let r0 = row_times(order - 1, 3, order - 6, 7, x);
+    let r1 = row_times(1, order - 1, 4, order - 5, x);
+    let r2 = row_times(order - 6, 7, order - 1, 3, x);
+    let r3 = row_times(4, order - 5, 1, order - 1, x);
     [
-        product(EIGHTH, r0),
-        product(EIGHTH, r1),
-        product(EIGHTH, r2),
-        product(EIGHTH, r3),
+        product(eighth, r0),
+        product(eighth, r1),
+        product(eighth, r2),
+        product(eighth, r3),
     ]
 }
 
 // Two blocks added word by word.
 fn add_blocks(a: [u64; 4], b: [u64; 4]) -> [u64; 4]
-    requires { ⌜ Words p a × Words p b ⌝ }
-    ensures { λ r. ⌜ r ≡ addLists p a b ⌝ }
+    requires { ⌜ Words prime a × Words prime b ⌝ }
+    ensures { λ r. ⌜ r ≡ addLists prime a b ⌝ }
 {
     [
         sum(a[0], b[0]),
@@ -80,8 +73,8 @@ fn put_block(block: [u64; 4], at: usize, state: &mut [u64])
 
 // The sum of all blocks, from the last on.
 fn sum_blocks(state: &[u64]) -> [u64; 4]
-    requires { ⌜ (length (now state) % 4 ≡ 0) × Words p (now state) ⌝ }
-    ensures { λ r. ⌜ r ≡ sumBlocks p (blocks (now (state .entry))) ⌝ }
+    requires { ⌜ (length (now state) % 4 ≡ 0) × Words prime (now state) ⌝ }
+    ensures { λ r. ⌜ r ≡ sumBlocks prime (blocks (now (state .entry))) ⌝ }
 {
     let mut total = [0u64; 4];
     let mut i = state.len();
@@ -95,13 +88,13 @@ fn sum_blocks(state: &[u64]) -> [u64; 4]
 
 // Of two or three blocks, minus the third or the fourth part of their sum.
 fn share(state: &[u64]) -> [u64; 4]
-    requires { ⌜ ((length (now state) ≡ 8) ⊎ (length (now state) ≡ 12)) × Words p (now state) ⌝ }
-    ensures { λ r. ⌜ r ≡ scaled p (negative p (inverse p ((1 + length (now (state .entry)) / 4) % p))) (sumBlocks p (blocks (now (state .entry)))) ⌝ }
+    requires { ⌜ ((length (now state) ≡ 8) ⊎ (length (now state) ≡ 12)) × Words prime (now state) ⌝ }
+    ensures { λ r. ⌜ r ≡ scaled prime (negative prime (inverse prime ((1 + length (now (state .entry)) / 4) % prime))) (sumBlocks prime (blocks (now (state .entry)))) ⌝ }
 {
     let part = if state.len() == 8 {
-        MINUS_THIRD
+        fields::minus_third()
     } else {
-        MINUS_QUARTER
+        fields::minus_quarter()
     };
     let s = sum_blocks(state);
     [
@@ -114,8 +107,8 @@ fn share(state: &[u64]) -> [u64; 4]
 
 // A block added to each block, and M4 undone in each.
 fn unm4_each(block: [u64; 4], state: &mut [u64])
-    requires { ⌜ (length (now state) % 4 ≡ 0) × Words p block × Words p (now state) ⌝ }
-    ensures { λ r. ⌜ now (state .exit) ≡ joinBlocks (map (unm4 p) (addToEach p block (blocks (now (state .entry))))) ⌝ }
+    requires { ⌜ (length (now state) % 4 ≡ 0) × Words prime block × Words prime (now state) ⌝ }
+    ensures { λ r. ⌜ now (state .exit) ≡ joinBlocks (map (unm4 prime) (addToEach prime block (blocks (now (state .entry))))) ⌝ }
 {
     let mut i = 0;
     while i < state.len() {
@@ -127,8 +120,8 @@ fn unm4_each(block: [u64; 4], state: &mut [u64])
 
 // M_E undone. A block alone got nothing from others.
 pub fn unexternal(state: &mut [u64])
-    requires { ⌜ Width (length (now state)) × Words p (now state) ⌝ }
-    ensures { λ r. ⌜ now (state .exit) ≡ unexternal p (now (state .entry)) ⌝ }
+    requires { ⌜ Width (length (now state)) × Words prime (now state) ⌝ }
+    ensures { λ r. ⌜ now (state .exit) ≡ unexternal prime (now (state .entry)) ⌝ }
 {
     if state.len() == 4 {
         unm4_each([0, 0, 0, 0], state);

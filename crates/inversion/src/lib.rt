@@ -5,21 +5,21 @@ mod internal;
 ghost use mathlib.Core.Path.{_≡_};
 ghost use Prim.Native.Nat.{_+_, _*_, _≤_};
 ghost use lib.ListN.{length, take, drop};
-ghost use Rattle.modular.specs.Goldilocks.{p};
+ghost use Rattle.fields.specs.Prime.{prime};
 ghost use Rattle.poseidon2.specs.Inverse.{subLists, seventhRoots, unfullRounds, unpermute};
 ghost use Rattle.poseidon2.specs.Statements.{Width, Words, AcceptedDiagonal};
 ghost use Rattle.inversion.specs.Kept.{WordsBelow, UnpermuteInput, unpartialRoundsBy, unpermuteBy};
 use external::unexternal;
-use field::difference;
-use field::seventh_root;
+use fields::difference;
+use fields::seventh_root;
 pub use internal::kept_inverses;
 pub use internal::total_inverse;
 use internal::uninternal;
 
 // Every word's seventh root, less the constants from place `at` on.
 fn unraise(constants: &[u64; 208], at: usize, state: &mut [u64])
-    requires { ⌜ (at + length (now state) ≤ 208) × WordsBelow p (at + length (now state)) (now constants) × Words p (now state) ⌝ }
-    ensures { λ r. ⌜ now (state .exit) ≡ subLists p (seventhRoots p (now (state .entry))) (drop at (now (constants .entry))) ⌝ }
+    requires { ⌜ (at + length (now state) ≤ 208) × WordsBelow prime (at + length (now state)) (now constants) × Words prime (now state) ⌝ }
+    ensures { λ r. ⌜ now (state .exit) ≡ subLists prime (seventhRoots prime (now (state .entry))) (drop at (now (constants .entry))) ⌝ }
 {
     let mut i = 0;
     while i < state.len() {
@@ -31,8 +31,8 @@ fn unraise(constants: &[u64; 208], at: usize, state: &mut [u64])
 
 // Full rounds undone: the first of them has its constants from place `at` on.
 fn unfull_rounds(rounds: usize, constants: &[u64; 208], at: usize, state: &mut [u64])
-    requires { ⌜ Width (length (now state)) × Words p (now state) × (at + length (now state) * rounds ≤ 208) × WordsBelow p (at + length (now state) * rounds) (now constants) ⌝ }
-    ensures { λ r. ⌜ now (state .exit) ≡ unfullRounds p (length (now (state .entry))) rounds (drop at (now (constants .entry))) (now (state .entry)) ⌝ }
+    requires { ⌜ Width (length (now state)) × Words prime (now state) × (at + length (now state) * rounds ≤ 208) × WordsBelow prime (at + length (now state) * rounds) (now constants) ⌝ }
+    ensures { λ r. ⌜ now (state .exit) ≡ unfullRounds prime (length (now (state .entry))) rounds (drop at (now (constants .entry))) (now (state .entry)) ⌝ }
 {
     let mut i = rounds;
     while i > 0 {
@@ -51,8 +51,8 @@ fn unpartial_rounds(
     at: usize,
     state: &mut [u64],
 )
-    requires { ⌜ Width (length (now state)) × Words p (now state) × (at + rounds ≤ 208) × WordsBelow p (at + rounds) (now constants) ⌝ }
-    ensures { λ r. ⌜ now (state .exit) ≡ unpartialRoundsBy p (take (length (now (state .entry))) (now (inverses .entry))) «total_inverse» rounds (drop at (now (constants .entry))) (now (state .entry)) ⌝ }
+    requires { ⌜ Width (length (now state)) × Words prime (now state) × (at + rounds ≤ 208) × WordsBelow prime (at + rounds) (now constants) ⌝ }
+    ensures { λ r. ⌜ now (state .exit) ≡ unpartialRoundsBy prime (take (length (now (state .entry))) (now (inverses .entry))) «total_inverse» rounds (drop at (now (constants .entry))) (now (state .entry)) ⌝ }
 {
     let mut i = rounds;
     while i > 0 {
@@ -73,8 +73,8 @@ pub fn unpermute_by(
     constants: &[u64; 208],
     state: &mut [u64],
 )
-    requires { ⌜ UnpermuteInput p width half «partial_rounds» (now constants) (now state) ⌝ }
-    ensures { λ r. ⌜ now (state .exit) ≡ unpermuteBy p width half «partial_rounds» (now (inverses .entry)) «total_inverse» (now (constants .entry)) (now (state .entry)) ⌝ }
+    requires { ⌜ UnpermuteInput prime width half «partial_rounds» (now constants) (now state) ⌝ }
+    ensures { λ r. ⌜ now (state .exit) ≡ unpermuteBy prime width half «partial_rounds» (now (inverses .entry)) «total_inverse» (now (constants .entry)) (now (state .entry)) ⌝ }
 {
     let middle = width * half;
     unfull_rounds(half, constants, middle + partial_rounds, state);
@@ -99,8 +99,8 @@ pub fn unpermute(
     constants: &[u64; 208],
     state: &mut [u64],
 )
-    requires { ⌜ UnpermuteInput p width half «partial_rounds» (now constants) (now state) × AcceptedDiagonal p width (take width (now diagonal)) ⌝ }
-    ensures { λ r. ⌜ now (state .exit) ≡ unpermute p half «partial_rounds» (now (diagonal .entry)) (now (constants .entry)) (now (state .entry)) ⌝ }
+    requires { ⌜ UnpermuteInput prime width half «partial_rounds» (now constants) (now state) × AcceptedDiagonal prime width (take width (now diagonal)) ⌝ }
+    ensures { λ r. ⌜ now (state .exit) ≡ unpermute prime half «partial_rounds» (now (diagonal .entry)) (now (constants .entry)) (now (state .entry)) ⌝ }
 {
     let inverses = kept_inverses(width, diagonal);
     let total_inverse = total_inverse(width, &inverses);

@@ -3,7 +3,7 @@
 ghost use mathlib.Core.Path.{_≡_};
 ghost use Prim.Native.Nat.{_≤_};
 ghost use lib.ListN.{length};
-ghost use Rattle.modular.specs.Goldilocks.{p};
+ghost use Rattle.fields.specs.Prime.{prime};
 ghost use Rattle.poseidon2.specs.Rounds.{permute};
 ghost use Rattle.poseidon2.specs.Compression.{compress};
 ghost use Rattle.measures.specs.Measured.{Validated};
@@ -19,9 +19,9 @@ pub extern "C" fn measured_permute(
     state: &mut [u64],
 )
     requires { ⌜ Validated width half «partial_rounds» (now constants) × (length (now state) ≡ width) ⌝ }
-    ensures { λ r. ⌜ now (state .exit) ≡ permute p half «partial_rounds» (now (diagonal .entry)) (now (constants .entry)) (now (state .entry)) ⌝ }
+    ensures { λ r. ⌜ now (state .exit) ≡ permute prime half «partial_rounds» (now (diagonal .entry)) (now (constants .entry)) (now (state .entry)) ⌝ }
 {
-    permutation::permute(width, half, partial_rounds, diagonal, constants, state);
+    permutations::permute(width, half, partial_rounds, diagonal, constants, state);
 }
 
 // One compression, without validation.
@@ -37,9 +37,9 @@ pub extern "C" fn measured_compress(
     node: &mut [u64],
 )
     requires { ⌜ Validated width half «partial_rounds» (now constants) × («node_size» ≤ width) × (length (now row) ≡ width) × (length (now node) ≡ «node_size») ⌝ }
-    ensures { λ r. ⌜ now (node .exit) ≡ compress p «node_size» half «partial_rounds» (now (diagonal .entry)) (now (constants .entry)) (now (row .entry)) ⌝ }
+    ensures { λ r. ⌜ now (node .exit) ≡ compress prime «node_size» half «partial_rounds» (now (diagonal .entry)) (now (constants .entry)) (now (row .entry)) ⌝ }
 {
-    permutation::compress(
+    permutations::compress(
         width,
         node_size,
         half,

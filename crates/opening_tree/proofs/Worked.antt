@@ -4,8 +4,8 @@ use mathlib.Core.List.{[], _∷_}
 use Prim.Native.Nat.{ℕ}
 use lib.Dec.{lit<}
 use Rattle.modular.specs.Arithmetic.{add, sub, mul, pow, inverse}
-use Rattle.modular.specs.Goldilocks.{p}
-use Rattle.modular.proofs.Goldilocks.{goldilocks-laws}
+use Rattle.fields.specs.Prime.{prime}
+use Rattle.fields.proofs.Prime.{prime-laws}
 use Rattle.poseidon2.specs.Layers.{addLists, sum, dot, rowsTimes, m4Rows, m4, blocks, joinBlocks, sumBlocks, addToEach, mixed, external, plusMultiples, internal}
 use Rattle.poseidon2.specs.Rounds.{addConstants, seventhPowers, fullRound, raiseFirst, partialRound, fullRounds, partialRounds, permuteAt, permute}
 use Rattle.poseidon2.specs.Compression.{compress}
@@ -14,9 +14,9 @@ use Rattle.merkle.specs.Levels.{above, level, build, root}
 use Rattle.opening_tree.specs.Worked.{Worked}
 
 -- the product with 2 is 1, and that is so of one word alone
-inverse-of-two : inverse p 2 ≡ 9223372034707292161
+inverse-of-two : inverse prime 2 ≡ 9223372034707292161
 unfolding mul
-inverse-of-two = sym (goldilocks-laws .inverses .only 2 9223372034707292161 (lit< tt) (lit< tt) (lit< tt) refl)
+inverse-of-two = sym (prime-laws .inverses .only 2 9223372034707292161 (lit< tt) (lit< tt) (lit< tt) refl)
 
 pub worked : Worked
 unfolding add sub mul pow addLists sum dot rowsTimes m4Rows m4 blocks joinBlocks sumBlocks addToEach mixed external plusMultiples internal addConstants seventhPowers fullRound raiseFirst partialRound fullRounds partialRounds permuteAt permute compress put joined level above build root

@@ -3,7 +3,7 @@ use mathlib.Core.Path.{_≡_}
 use mathlib.Core.List.{List, [], _∷_, _++_}
 use Prim.Native.Nat.{ℕ, _+_, _-_, _^_}
 use Rattle.modular.specs.Arithmetic.{sub, mul, inverse}
-use Rattle.modular.specs.Goldilocks.{p}
+use Rattle.fields.specs.Prime.{prime}
 use Rattle.poseidon2.specs.Layers.{m4, external, internal}
 use Rattle.poseidon2.specs.Rounds.{permute}
 use Rattle.poseidon2.specs.Compression.{compress}
@@ -20,22 +20,22 @@ case g s = record { given = g; said = s }
 
 abbrev pub fieldCases : List Case
 fieldCases =
-    case (mul p (p - 1) (p - 1) ∷ []) (1 ∷ []) ∷
-    case (mul p (2 ^ 32) (2 ^ 32) ∷ []) (4294967295 ∷ []) ∷
-    case (mul p (2 ^ 48) (2 ^ 48) ∷ []) ((p - 1) ∷ []) ∷
-    case (sub p 0 1 ∷ []) ((p - 1) ∷ []) ∷
-    case (inverse p 2 ∷ []) (9223372034707292161 ∷ []) ∷ []
+    case (mul prime (prime - 1) (prime - 1) ∷ []) (1 ∷ []) ∷
+    case (mul prime (2 ^ 32) (2 ^ 32) ∷ []) (4294967295 ∷ []) ∷
+    case (mul prime (2 ^ 48) (2 ^ 48) ∷ []) ((prime - 1) ∷ []) ∷
+    case (sub prime 0 1 ∷ []) ((prime - 1) ∷ []) ∷
+    case (inverse prime 2 ∷ []) (9223372034707292161 ∷ []) ∷ []
 
 -- D and C of the set T.
 abbrev pub tDiagonal : List ℕ
 tDiagonal = 1 ∷ 2 ∷ 3 ∷ 4 ∷ []
 
 abbrev pub tConstants : List ℕ
-tConstants = 0 ∷ 0 ∷ 0 ∷ 0 ∷ (p - 505316) ∷ (p - 410806) ∷ (p - 127289) ∷ (p - 94519) ∷ []
+tConstants = 0 ∷ 0 ∷ 0 ∷ 0 ∷ (prime - 505316) ∷ (prime - 410806) ∷ (prime - 127289) ∷ (prime - 94519) ∷ []
 
 -- C of the set U, whose D is T's.
 abbrev pub uConstants : List ℕ
-uConstants = 0 ∷ 0 ∷ 0 ∷ 0 ∷ (p - 505316) ∷ (p - 632615) ∷ (p - 1454227) ∷ (p - 1014482) ∷ (p - 1010691) ∷ []
+uConstants = 0 ∷ 0 ∷ 0 ∷ 0 ∷ (prime - 505316) ∷ (prime - 632615) ∷ (prime - 1454227) ∷ (prime - 1014482) ∷ (prime - 1010691) ∷ []
 
 abbrev one : List ℕ
 one = 1 ∷ 0 ∷ 0 ∷ 0 ∷ []
@@ -43,17 +43,17 @@ one = 1 ∷ 0 ∷ 0 ∷ 0 ∷ []
 -- Under T and U half of R_F is 1.
 abbrev pub permutationCases : List Case
 permutationCases =
-    case (m4 p one) (5 ∷ 4 ∷ 1 ∷ 1 ∷ []) ∷
-    case (external p (1 ∷ 0 ∷ 0 ∷ 0 ∷ 0 ∷ 0 ∷ 0 ∷ 0 ∷ [])) (10 ∷ 8 ∷ 2 ∷ 2 ∷ 5 ∷ 4 ∷ 1 ∷ 1 ∷ []) ∷
-    case (internal p tDiagonal one) (2 ∷ 1 ∷ 1 ∷ 1 ∷ []) ∷
-    case (permute p 1 0 tDiagonal tConstants one) (5 ∷ 4 ∷ 1 ∷ 1 ∷ []) ∷
-    case (compress p 2 1 0 tDiagonal tConstants one) (6 ∷ 4 ∷ []) ∷
-    case (permute p 1 1 tDiagonal uConstants one) (5 ∷ 4 ∷ 1 ∷ 1 ∷ []) ∷
-    case (compress p 2 1 1 tDiagonal uConstants one) (6 ∷ 4 ∷ []) ∷ []
+    case (m4 prime one) (5 ∷ 4 ∷ 1 ∷ 1 ∷ []) ∷
+    case (external prime (1 ∷ 0 ∷ 0 ∷ 0 ∷ 0 ∷ 0 ∷ 0 ∷ 0 ∷ [])) (10 ∷ 8 ∷ 2 ∷ 2 ∷ 5 ∷ 4 ∷ 1 ∷ 1 ∷ []) ∷
+    case (internal prime tDiagonal one) (2 ∷ 1 ∷ 1 ∷ 1 ∷ []) ∷
+    case (permute prime 1 0 tDiagonal tConstants one) (5 ∷ 4 ∷ 1 ∷ 1 ∷ []) ∷
+    case (compress prime 2 1 0 tDiagonal tConstants one) (6 ∷ 4 ∷ []) ∷
+    case (permute prime 1 1 tDiagonal uConstants one) (5 ∷ 4 ∷ 1 ∷ 1 ∷ []) ∷
+    case (compress prime 2 1 1 tDiagonal uConstants one) (6 ∷ 4 ∷ []) ∷ []
 
 -- The tree of T, and the root of the leaves 1, 0 and 0, 0.
 abbrev pub tTree : Shape
-tTree = shape p 4 2 1 0 tDiagonal tConstants
+tTree = shape prime 4 2 1 0 tDiagonal tConstants
 
 abbrev pub treeCases : List Case
 treeCases = case (root tTree (build tTree 1 one)) (6 ∷ 4 ∷ []) ∷ []

@@ -7,7 +7,6 @@ use Prim.Native.Nat.{ℕ, zero, suc}
 use native.Mathlib.Omega.{arith}
 use lib.Dec.{eqb}
 use borrow.Author.Tests.{eqb-true, eqb-false}
-use Rattle.modular.specs.Goldilocks.{p}
 use Rattle.refusals.specs.Table.{Refusal, firstRefusal, Reply, done, reply}
 use Rattle.refusals.proofs.Table.{Numbered, refused-equations, done-equations}
 use Rattle.parameters.specs.declared.ParameterSet.{ParameterSet}
@@ -40,13 +39,13 @@ is-true false o = absurd (o refl)
 
 module _ (v : Held) (top : List ℕ) (q : ℕ) (leaf siblings : List ℕ) where
   abbrev entry : ParameterSet → Reply
-  entry s = verifyReply p s top q leaf siblings
+  entry s = verifyReply s top q leaf siblings
 
   abbrev s : ParameterSet
   s = v .set
 
   abbrev yes : Bool
-  yes = accepts (treeOf p s) (s .height) top q leaf siblings
+  yes = accepts (treeOf s) (s .height) top q leaf siblings
 
   is-yes : returned v top q leaf siblings ≡ 0 → Yes v top q leaf siblings
   unfolding verifyReply
@@ -55,7 +54,7 @@ module _ (v : Held) (top : List ℕ) (q : ℕ) (leaf siblings : List ℕ) where
       of : (b : Bool) → eqb (v .number) 0 ≡ b → Yes v top q leaf siblings
       of true t =
           let z = eqb-true (v .number) 0 t in
-          let R = zero-behind (verifyRefusals p s top q leaf siblings) (verify-numbered s top q leaf siblings) (cond yes 1 0) (ap verdictNumber (entry-reply {w = v} {v = v} refl z entry) ∙ e) in
+          let R = zero-behind (verifyRefusals s top q leaf siblings) (verify-numbered s top q leaf siblings) (cond yes 1 0) (ap verdictNumber (entry-reply {w = v} {v = v} refl z entry) ∙ e) in
           record { held = z; unrefused = R .0; accepted = is-true yes (R .1) }
       of false f =
           let o = eqb-false (v .number) 0 f in
@@ -64,7 +63,7 @@ module _ (v : Held) (top : List ℕ) (q : ℕ) (leaf siblings : List ℕ) where
   is-zero : Yes v top q leaf siblings → returned v top q leaf siblings ≡ 0
   unfolding verifyReply verdictNumber
   is-zero y =
-      let E = done-equations (verifyRefusals p s top q leaf siblings) (cond yes 1 0 ∷ []) [] [] (verify-numbered s top q leaf siblings) (y .unrefused) .0 in
+      let E = done-equations (verifyRefusals s top q leaf siblings) (cond yes 1 0 ∷ []) [] [] (verify-numbered s top q leaf siblings) (y .unrefused) .0 in
       sym (ap verdictNumber (entry-reply {w = v} {v = v} refl (y .held) entry)) ∙ sym (ap verdictNumber E) ∙ ap (λ (b : Bool). verdictNumber (done (cond b 1 0 ∷ []))) (y .accepted)
 
 pub only-yes : OnlyYes

@@ -1,13 +1,13 @@
 // The field, for C.
 ghost use mathlib.Core.Path.{_≡_};
-ghost use Rattle.modular.specs.Goldilocks.{p};
+ghost use Rattle.fields.specs.Prime.{prime};
 ghost use Rattle.field_entries.specs.Arithmetic.{sumReply, differenceReply, productReply, powerReply, inverseReply, seventhRootReply};
 ghost use Rattle.replies.specs.Replies.{numberOf, valueAfter};
 
 // a + b.
 #[no_mangle]
 pub extern "C" fn opening_tree_sum(a: u64, b: u64, result: &mut u64) -> u8
-    ensures { λ r. ⌜ (r ≡ numberOf (sumReply p a b)) × (now (result .exit) ≡ valueAfter (sumReply p a b) (now (result .entry))) ⌝ }
+    ensures { λ r. ⌜ (r ≡ numberOf (sumReply prime a b)) × (now (result .exit) ≡ valueAfter (sumReply prime a b) (now (result .entry))) ⌝ }
 {
     replies::of_answer(opening_tree::sum(a, b), result)
 }
@@ -15,7 +15,7 @@ pub extern "C" fn opening_tree_sum(a: u64, b: u64, result: &mut u64) -> u8
 // a - b.
 #[no_mangle]
 pub extern "C" fn opening_tree_difference(a: u64, b: u64, result: &mut u64) -> u8
-    ensures { λ r. ⌜ (r ≡ numberOf (differenceReply p a b)) × (now (result .exit) ≡ valueAfter (differenceReply p a b) (now (result .entry))) ⌝ }
+    ensures { λ r. ⌜ (r ≡ numberOf (differenceReply prime a b)) × (now (result .exit) ≡ valueAfter (differenceReply prime a b) (now (result .entry))) ⌝ }
 {
     replies::of_answer(opening_tree::difference(a, b), result)
 }
@@ -23,7 +23,7 @@ pub extern "C" fn opening_tree_difference(a: u64, b: u64, result: &mut u64) -> u
 // a times b.
 #[no_mangle]
 pub extern "C" fn opening_tree_product(a: u64, b: u64, result: &mut u64) -> u8
-    ensures { λ r. ⌜ (r ≡ numberOf (productReply p a b)) × (now (result .exit) ≡ valueAfter (productReply p a b) (now (result .entry))) ⌝ }
+    ensures { λ r. ⌜ (r ≡ numberOf (productReply prime a b)) × (now (result .exit) ≡ valueAfter (productReply prime a b) (now (result .entry))) ⌝ }
 {
     replies::of_answer(opening_tree::product(a, b), result)
 }
@@ -31,7 +31,7 @@ pub extern "C" fn opening_tree_product(a: u64, b: u64, result: &mut u64) -> u8
 // The base to the power of the exponent.
 #[no_mangle]
 pub extern "C" fn opening_tree_power(base: u64, exponent: u64, result: &mut u64) -> u8
-    ensures { λ r. ⌜ (r ≡ numberOf (powerReply p base exponent)) × (now (result .exit) ≡ valueAfter (powerReply p base exponent) (now (result .entry))) ⌝ }
+    ensures { λ r. ⌜ (r ≡ numberOf (powerReply prime base exponent)) × (now (result .exit) ≡ valueAfter (powerReply prime base exponent) (now (result .entry))) ⌝ }
 {
     replies::of_answer(opening_tree::power(base, exponent), result)
 }
@@ -39,7 +39,7 @@ pub extern "C" fn opening_tree_power(base: u64, exponent: u64, result: &mut u64)
 // The word whose product with x is 1.
 #[no_mangle]
 pub extern "C" fn opening_tree_inverse(x: u64, result: &mut u64) -> u8
-    ensures { λ r. ⌜ (r ≡ numberOf (inverseReply p x)) × (now (result .exit) ≡ valueAfter (inverseReply p x) (now (result .entry))) ⌝ }
+    ensures { λ r. ⌜ (r ≡ numberOf (inverseReply prime x)) × (now (result .exit) ≡ valueAfter (inverseReply prime x) (now (result .entry))) ⌝ }
 {
     replies::of_answer(opening_tree::inverse(x), result)
 }
@@ -47,7 +47,7 @@ pub extern "C" fn opening_tree_inverse(x: u64, result: &mut u64) -> u8
 // The word whose seventh power is y.
 #[no_mangle]
 pub extern "C" fn opening_tree_seventh_root(y: u64, result: &mut u64) -> u8
-    ensures { λ r. ⌜ (r ≡ numberOf (seventhRootReply p y)) × (now (result .exit) ≡ valueAfter (seventhRootReply p y) (now (result .entry))) ⌝ }
+    ensures { λ r. ⌜ (r ≡ numberOf (seventhRootReply prime y)) × (now (result .exit) ≡ valueAfter (seventhRootReply prime y) (now (result .entry))) ⌝ }
 {
     replies::of_answer(opening_tree::seventh_root(y), result)
 }

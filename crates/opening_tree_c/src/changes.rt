@@ -1,6 +1,5 @@
 // Changes of a store and collisions, for C.
 ghost use mathlib.Core.Path.{_≡_};
-ghost use Rattle.modular.specs.Goldilocks.{p};
 ghost use Rattle.parameters.specs.ParameterSet.{holding};
 ghost use Rattle.change_entries.specs.Replacement.{replaceReply, replaced};
 ghost use Rattle.push_entries.specs.Listed.{listedReply, listedPushed};
@@ -23,9 +22,9 @@ pub extern "C" fn opening_tree_replace(
     leaf: &[u64],
     made: &mut u64,
 ) -> u8
-    ensures { λ r. ⌜ (r ≡ numberOf (through (holding width «node_size» height «full_rounds» «partial_rounds» (now (diagonal .entry)) (now (constants .entry))) (λ s. replaceReply p s (now (store .entry)) place (now (leaf .entry)))))
-        × (now (store .exit) ≡ leaving (holding width «node_size» height «full_rounds» «partial_rounds» (now (diagonal .entry)) (now (constants .entry))) (λ s. replaced p s (now (store .entry)) place (now (leaf .entry))) (now (store .entry)))
-        × (now (made .exit) ≡ valueAfter (through (holding width «node_size» height «full_rounds» «partial_rounds» (now (diagonal .entry)) (now (constants .entry))) (λ s. replaceReply p s (now (store .entry)) place (now (leaf .entry)))) (now (made .entry))) ⌝ }
+    ensures { λ r. ⌜ (r ≡ numberOf (through (holding width «node_size» height «full_rounds» «partial_rounds» (now (diagonal .entry)) (now (constants .entry))) (λ s. replaceReply s (now (store .entry)) place (now (leaf .entry)))))
+        × (now (store .exit) ≡ leaving (holding width «node_size» height «full_rounds» «partial_rounds» (now (diagonal .entry)) (now (constants .entry))) (λ s. replaced s (now (store .entry)) place (now (leaf .entry))) (now (store .entry)))
+        × (now (made .exit) ≡ valueAfter (through (holding width «node_size» height «full_rounds» «partial_rounds» (now (diagonal .entry)) (now (constants .entry))) (λ s. replaceReply s (now (store .entry)) place (now (leaf .entry)))) (now (made .entry))) ⌝ }
 {
     let numbers = [width, node_size, height, full_rounds, partial_rounds];
     let held = parameters::hold(numbers, diagonal, constants);
@@ -50,9 +49,9 @@ pub extern "C" fn opening_tree_push_numbers(
     records: &[u64],
     made: &mut u64,
 ) -> u8
-    ensures { λ r. ⌜ (r ≡ numberOf (through (holding width «node_size» height «full_rounds» «partial_rounds» (now (diagonal .entry)) (now (constants .entry))) (λ s. listedReply p s (now (store .entry)) (now (records .entry)))))
-        × (now (store .exit) ≡ leaving (holding width «node_size» height «full_rounds» «partial_rounds» (now (diagonal .entry)) (now (constants .entry))) (λ s. listedPushed p s (now (store .entry)) (now (records .entry))) (now (store .entry)))
-        × (now (made .exit) ≡ valueAfter (through (holding width «node_size» height «full_rounds» «partial_rounds» (now (diagonal .entry)) (now (constants .entry))) (λ s. listedReply p s (now (store .entry)) (now (records .entry)))) (now (made .entry))) ⌝ }
+    ensures { λ r. ⌜ (r ≡ numberOf (through (holding width «node_size» height «full_rounds» «partial_rounds» (now (diagonal .entry)) (now (constants .entry))) (λ s. listedReply s (now (store .entry)) (now (records .entry)))))
+        × (now (store .exit) ≡ leaving (holding width «node_size» height «full_rounds» «partial_rounds» (now (diagonal .entry)) (now (constants .entry))) (λ s. listedPushed s (now (store .entry)) (now (records .entry))) (now (store .entry)))
+        × (now (made .exit) ≡ valueAfter (through (holding width «node_size» height «full_rounds» «partial_rounds» (now (diagonal .entry)) (now (constants .entry))) (λ s. listedReply s (now (store .entry)) (now (records .entry)))) (now (made .entry))) ⌝ }
 {
     let numbers = [width, node_size, height, full_rounds, partial_rounds];
     let held = parameters::hold(numbers, diagonal, constants);
@@ -83,10 +82,10 @@ pub extern "C" fn opening_tree_extract(
     second_row: &mut [u64],
     level: &mut u64,
 ) -> u8
-    ensures { λ r. ⌜ (r ≡ numberOf (through (holding width «node_size» height «full_rounds» «partial_rounds» (now (diagonal .entry)) (now (constants .entry))) (λ s. extractReply p s (pair (now (root .entry)) place (now (first .entry)) (now («first_siblings» .entry)) (now (second .entry)) (now («second_siblings» .entry))) (now («first_row» .entry)) (now («second_row» .entry)))))
-        × (now («first_row» .exit) ≡ leaving (holding width «node_size» height «full_rounds» «partial_rounds» (now (diagonal .entry)) (now (constants .entry))) (λ s. extractedFirst p s (pair (now (root .entry)) place (now (first .entry)) (now («first_siblings» .entry)) (now (second .entry)) (now («second_siblings» .entry))) (now («first_row» .entry)) (now («second_row» .entry))) (now («first_row» .entry)))
-        × (now («second_row» .exit) ≡ leaving (holding width «node_size» height «full_rounds» «partial_rounds» (now (diagonal .entry)) (now (constants .entry))) (λ s. extractedSecond p s (pair (now (root .entry)) place (now (first .entry)) (now («first_siblings» .entry)) (now (second .entry)) (now («second_siblings» .entry))) (now («first_row» .entry)) (now («second_row» .entry))) (now («second_row» .entry)))
-        × (now (level .exit) ≡ valueAfter (through (holding width «node_size» height «full_rounds» «partial_rounds» (now (diagonal .entry)) (now (constants .entry))) (λ s. extractReply p s (pair (now (root .entry)) place (now (first .entry)) (now («first_siblings» .entry)) (now (second .entry)) (now («second_siblings» .entry))) (now («first_row» .entry)) (now («second_row» .entry)))) (now (level .entry))) ⌝ }
+    ensures { λ r. ⌜ (r ≡ numberOf (through (holding width «node_size» height «full_rounds» «partial_rounds» (now (diagonal .entry)) (now (constants .entry))) (λ s. extractReply s (pair (now (root .entry)) place (now (first .entry)) (now («first_siblings» .entry)) (now (second .entry)) (now («second_siblings» .entry))) (now («first_row» .entry)) (now («second_row» .entry)))))
+        × (now («first_row» .exit) ≡ leaving (holding width «node_size» height «full_rounds» «partial_rounds» (now (diagonal .entry)) (now (constants .entry))) (λ s. extractedFirst s (pair (now (root .entry)) place (now (first .entry)) (now («first_siblings» .entry)) (now (second .entry)) (now («second_siblings» .entry))) (now («first_row» .entry)) (now («second_row» .entry))) (now («first_row» .entry)))
+        × (now («second_row» .exit) ≡ leaving (holding width «node_size» height «full_rounds» «partial_rounds» (now (diagonal .entry)) (now (constants .entry))) (λ s. extractedSecond s (pair (now (root .entry)) place (now (first .entry)) (now («first_siblings» .entry)) (now (second .entry)) (now («second_siblings» .entry))) (now («first_row» .entry)) (now («second_row» .entry))) (now («second_row» .entry)))
+        × (now (level .exit) ≡ valueAfter (through (holding width «node_size» height «full_rounds» «partial_rounds» (now (diagonal .entry)) (now (constants .entry))) (λ s. extractReply s (pair (now (root .entry)) place (now (first .entry)) (now («first_siblings» .entry)) (now (second .entry)) (now («second_siblings» .entry))) (now («first_row» .entry)) (now («second_row» .entry)))) (now (level .entry))) ⌝ }
 {
     let numbers = [width, node_size, height, full_rounds, partial_rounds];
     let held = parameters::hold(numbers, diagonal, constants);

@@ -1,6 +1,5 @@
 // The opening reader, for C: a level's part is copied to a buffer.
 ghost use mathlib.Core.Path.{_≡_};
-ghost use Rattle.modular.specs.Goldilocks.{p};
 ghost use Rattle.parameters.specs.ParameterSet.{holding};
 ghost use Rattle.reader_entries.specs.Copies.{copyReply, copied};
 ghost use Rattle.replies.specs.Replies.{numberOf};
@@ -20,8 +19,8 @@ pub extern "C" fn opening_tree_read_level(
     level: u64,
     part: &mut [u64],
 ) -> u8
-    ensures { λ r. ⌜ (r ≡ numberOf (through (holding width «node_size» height «full_rounds» «partial_rounds» (now (diagonal .entry)) (now (constants .entry))) (λ s. copyReply p s (now (siblings .entry)) level (now (part .entry)))))
-        × (now (part .exit) ≡ leaving (holding width «node_size» height «full_rounds» «partial_rounds» (now (diagonal .entry)) (now (constants .entry))) (λ s. copied p s (now (siblings .entry)) level (now (part .entry))) (now (part .entry))) ⌝ }
+    ensures { λ r. ⌜ (r ≡ numberOf (through (holding width «node_size» height «full_rounds» «partial_rounds» (now (diagonal .entry)) (now (constants .entry))) (λ s. copyReply s (now (siblings .entry)) level (now (part .entry)))))
+        × (now (part .exit) ≡ leaving (holding width «node_size» height «full_rounds» «partial_rounds» (now (diagonal .entry)) (now (constants .entry))) (λ s. copied s (now (siblings .entry)) level (now (part .entry))) (now (part .entry))) ⌝ }
 {
     let numbers = [width, node_size, height, full_rounds, partial_rounds];
     let held = parameters::hold(numbers, diagonal, constants);

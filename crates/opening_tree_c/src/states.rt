@@ -1,7 +1,7 @@
 // The permutation, its inverse and the compression, for C.
 ghost use mathlib.Core.Path.{_≡_};
-ghost use Rattle.modular.specs.Goldilocks.{p};
 ghost use Rattle.refusals.specs.Table.{firstRefusal};
+ghost use Rattle.fields.specs.Prime.{prime};
 ghost use Rattle.parameters.specs.ParameterSet.{holding};
 ghost use Rattle.parameters.specs.Refusals.{validationRefusals};
 ghost use Rattle.state_entries.specs.Permutation.{stateReply, permuted, unpermuted, compressReply, compressed};
@@ -19,7 +19,7 @@ pub extern "C" fn opening_tree_validate(
     diagonal: &[u64],
     constants: &[u64],
 ) -> u8
-    ensures { λ r. ⌜ r ≡ firstRefusal (validationRefusals p width «node_size» height «full_rounds» «partial_rounds» (now (diagonal .entry)) (now (constants .entry))) ⌝ }
+    ensures { λ r. ⌜ r ≡ firstRefusal (validationRefusals prime width «node_size» height «full_rounds» «partial_rounds» (now (diagonal .entry)) (now (constants .entry))) ⌝ }
 {
     parameters::refusal_of(
         width,
@@ -44,8 +44,8 @@ pub extern "C" fn opening_tree_permute(
     constants: &[u64],
     state: &mut [u64],
 ) -> u8
-    ensures { λ r. ⌜ (r ≡ numberOf (through (holding width «node_size» height «full_rounds» «partial_rounds» (now (diagonal .entry)) (now (constants .entry))) (λ s. stateReply p s (now (state .entry)))))
-        × (now (state .exit) ≡ leaving (holding width «node_size» height «full_rounds» «partial_rounds» (now (diagonal .entry)) (now (constants .entry))) (λ s. permuted p s (now (state .entry))) (now (state .entry))) ⌝ }
+    ensures { λ r. ⌜ (r ≡ numberOf (through (holding width «node_size» height «full_rounds» «partial_rounds» (now (diagonal .entry)) (now (constants .entry))) (λ s. stateReply s (now (state .entry)))))
+        × (now (state .exit) ≡ leaving (holding width «node_size» height «full_rounds» «partial_rounds» (now (diagonal .entry)) (now (constants .entry))) (λ s. permuted s (now (state .entry))) (now (state .entry))) ⌝ }
 {
     let numbers = [width, node_size, height, full_rounds, partial_rounds];
     let held = parameters::hold(numbers, diagonal, constants);
@@ -68,8 +68,8 @@ pub extern "C" fn opening_tree_unpermute(
     constants: &[u64],
     state: &mut [u64],
 ) -> u8
-    ensures { λ r. ⌜ (r ≡ numberOf (through (holding width «node_size» height «full_rounds» «partial_rounds» (now (diagonal .entry)) (now (constants .entry))) (λ s. stateReply p s (now (state .entry)))))
-        × (now (state .exit) ≡ leaving (holding width «node_size» height «full_rounds» «partial_rounds» (now (diagonal .entry)) (now (constants .entry))) (λ s. unpermuted p s (now (state .entry))) (now (state .entry))) ⌝ }
+    ensures { λ r. ⌜ (r ≡ numberOf (through (holding width «node_size» height «full_rounds» «partial_rounds» (now (diagonal .entry)) (now (constants .entry))) (λ s. stateReply s (now (state .entry)))))
+        × (now (state .exit) ≡ leaving (holding width «node_size» height «full_rounds» «partial_rounds» (now (diagonal .entry)) (now (constants .entry))) (λ s. unpermuted s (now (state .entry))) (now (state .entry))) ⌝ }
 {
     let numbers = [width, node_size, height, full_rounds, partial_rounds];
     let held = parameters::hold(numbers, diagonal, constants);
@@ -93,8 +93,8 @@ pub extern "C" fn opening_tree_compress(
     state: &[u64],
     node: &mut [u64],
 ) -> u8
-    ensures { λ r. ⌜ (r ≡ numberOf (through (holding width «node_size» height «full_rounds» «partial_rounds» (now (diagonal .entry)) (now (constants .entry))) (λ s. compressReply p s (now (state .entry)) (now (node .entry)))))
-        × (now (node .exit) ≡ leaving (holding width «node_size» height «full_rounds» «partial_rounds» (now (diagonal .entry)) (now (constants .entry))) (λ s. compressed p s (now (state .entry)) (now (node .entry))) (now (node .entry))) ⌝ }
+    ensures { λ r. ⌜ (r ≡ numberOf (through (holding width «node_size» height «full_rounds» «partial_rounds» (now (diagonal .entry)) (now (constants .entry))) (λ s. compressReply s (now (state .entry)) (now (node .entry)))))
+        × (now (node .exit) ≡ leaving (holding width «node_size» height «full_rounds» «partial_rounds» (now (diagonal .entry)) (now (constants .entry))) (λ s. compressed s (now (state .entry)) (now (node .entry))) (now (node .entry))) ⌝ }
 {
     let numbers = [width, node_size, height, full_rounds, partial_rounds];
     let held = parameters::hold(numbers, diagonal, constants);

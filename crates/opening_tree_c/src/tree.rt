@@ -1,6 +1,5 @@
 // Trees for C: building, roots, openings and their verification.
 ghost use mathlib.Core.Path.{_≡_};
-ghost use Rattle.modular.specs.Goldilocks.{p};
 ghost use Rattle.parameters.specs.ParameterSet.{holding};
 ghost use Rattle.tree_entries.specs.Trees.{buildReply, built, rootReply, rooted, storelessReply, storelessRooted, openReply, opened, verifyReply, sizesReply};
 ghost use Rattle.replies.specs.Replies.{numberOf, valueAt, verdictNumber};
@@ -19,8 +18,8 @@ pub extern "C" fn opening_tree_build(
     leaves: &[u64],
     store: &mut [u64],
 ) -> u8
-    ensures { λ r. ⌜ (r ≡ numberOf (through (holding width «node_size» height «full_rounds» «partial_rounds» (now (diagonal .entry)) (now (constants .entry))) (λ s. buildReply p s (now (leaves .entry)) (now (store .entry)))))
-        × (now (store .exit) ≡ leaving (holding width «node_size» height «full_rounds» «partial_rounds» (now (diagonal .entry)) (now (constants .entry))) (λ s. built p s (now (leaves .entry)) (now (store .entry))) (now (store .entry))) ⌝ }
+    ensures { λ r. ⌜ (r ≡ numberOf (through (holding width «node_size» height «full_rounds» «partial_rounds» (now (diagonal .entry)) (now (constants .entry))) (λ s. buildReply s (now (leaves .entry)) (now (store .entry)))))
+        × (now (store .exit) ≡ leaving (holding width «node_size» height «full_rounds» «partial_rounds» (now (diagonal .entry)) (now (constants .entry))) (λ s. built s (now (leaves .entry)) (now (store .entry))) (now (store .entry))) ⌝ }
 {
     let numbers = [width, node_size, height, full_rounds, partial_rounds];
     let held = parameters::hold(numbers, diagonal, constants);
@@ -44,8 +43,8 @@ pub extern "C" fn opening_tree_root(
     store: &[u64],
     node: &mut [u64],
 ) -> u8
-    ensures { λ r. ⌜ (r ≡ numberOf (through (holding width «node_size» height «full_rounds» «partial_rounds» (now (diagonal .entry)) (now (constants .entry))) (λ s. rootReply p s (now (store .entry)) (now (node .entry)))))
-        × (now (node .exit) ≡ leaving (holding width «node_size» height «full_rounds» «partial_rounds» (now (diagonal .entry)) (now (constants .entry))) (λ s. rooted p s (now (store .entry)) (now (node .entry))) (now (node .entry))) ⌝ }
+    ensures { λ r. ⌜ (r ≡ numberOf (through (holding width «node_size» height «full_rounds» «partial_rounds» (now (diagonal .entry)) (now (constants .entry))) (λ s. rootReply s (now (store .entry)) (now (node .entry)))))
+        × (now (node .exit) ≡ leaving (holding width «node_size» height «full_rounds» «partial_rounds» (now (diagonal .entry)) (now (constants .entry))) (λ s. rooted s (now (store .entry)) (now (node .entry))) (now (node .entry))) ⌝ }
 {
     let numbers = [width, node_size, height, full_rounds, partial_rounds];
     let held = parameters::hold(numbers, diagonal, constants);
@@ -69,8 +68,8 @@ pub extern "C" fn opening_tree_storeless_root(
     leaves: &[u64],
     node: &mut [u64],
 ) -> u8
-    ensures { λ r. ⌜ (r ≡ numberOf (through (holding width «node_size» height «full_rounds» «partial_rounds» (now (diagonal .entry)) (now (constants .entry))) (λ s. storelessReply p s (now (leaves .entry)) (now (node .entry)))))
-        × (now (node .exit) ≡ leaving (holding width «node_size» height «full_rounds» «partial_rounds» (now (diagonal .entry)) (now (constants .entry))) (λ s. storelessRooted p s (now (leaves .entry)) (now (node .entry))) (now (node .entry))) ⌝ }
+    ensures { λ r. ⌜ (r ≡ numberOf (through (holding width «node_size» height «full_rounds» «partial_rounds» (now (diagonal .entry)) (now (constants .entry))) (λ s. storelessReply s (now (leaves .entry)) (now (node .entry)))))
+        × (now (node .exit) ≡ leaving (holding width «node_size» height «full_rounds» «partial_rounds» (now (diagonal .entry)) (now (constants .entry))) (λ s. storelessRooted s (now (leaves .entry)) (now (node .entry))) (now (node .entry))) ⌝ }
 {
     let numbers = [width, node_size, height, full_rounds, partial_rounds];
     let held = parameters::hold(numbers, diagonal, constants);
@@ -95,8 +94,8 @@ pub extern "C" fn opening_tree_open(
     place: u64,
     siblings: &mut [u64],
 ) -> u8
-    ensures { λ r. ⌜ (r ≡ numberOf (through (holding width «node_size» height «full_rounds» «partial_rounds» (now (diagonal .entry)) (now (constants .entry))) (λ s. openReply p s (now (store .entry)) place (now (siblings .entry)))))
-        × (now (siblings .exit) ≡ leaving (holding width «node_size» height «full_rounds» «partial_rounds» (now (diagonal .entry)) (now (constants .entry))) (λ s. opened p s (now (store .entry)) place (now (siblings .entry))) (now (siblings .entry))) ⌝ }
+    ensures { λ r. ⌜ (r ≡ numberOf (through (holding width «node_size» height «full_rounds» «partial_rounds» (now (diagonal .entry)) (now (constants .entry))) (λ s. openReply s (now (store .entry)) place (now (siblings .entry)))))
+        × (now (siblings .exit) ≡ leaving (holding width «node_size» height «full_rounds» «partial_rounds» (now (diagonal .entry)) (now (constants .entry))) (λ s. opened s (now (store .entry)) place (now (siblings .entry))) (now (siblings .entry))) ⌝ }
 {
     let numbers = [width, node_size, height, full_rounds, partial_rounds];
     let held = parameters::hold(numbers, diagonal, constants);
@@ -121,10 +120,10 @@ pub extern "C" fn opening_tree_sizes(
     store: &mut u64,
     opening: &mut u64,
 ) -> u8
-    ensures { λ r. ⌜ (r ≡ numberOf (through (holding width «node_size» height «full_rounds» «partial_rounds» (now (diagonal .entry)) (now (constants .entry))) (λ s. sizesReply p s)))
-        × (now (leaves .exit) ≡ valueAt 0 (through (holding width «node_size» height «full_rounds» «partial_rounds» (now (diagonal .entry)) (now (constants .entry))) (λ s. sizesReply p s)) (now (leaves .entry)))
-        × (now (store .exit) ≡ valueAt 1 (through (holding width «node_size» height «full_rounds» «partial_rounds» (now (diagonal .entry)) (now (constants .entry))) (λ s. sizesReply p s)) (now (store .entry)))
-        × (now (opening .exit) ≡ valueAt 2 (through (holding width «node_size» height «full_rounds» «partial_rounds» (now (diagonal .entry)) (now (constants .entry))) (λ s. sizesReply p s)) (now (opening .entry))) ⌝ }
+    ensures { λ r. ⌜ (r ≡ numberOf (through (holding width «node_size» height «full_rounds» «partial_rounds» (now (diagonal .entry)) (now (constants .entry))) (λ s. sizesReply s)))
+        × (now (leaves .exit) ≡ valueAt 0 (through (holding width «node_size» height «full_rounds» «partial_rounds» (now (diagonal .entry)) (now (constants .entry))) (λ s. sizesReply s)) (now (leaves .entry)))
+        × (now (store .exit) ≡ valueAt 1 (through (holding width «node_size» height «full_rounds» «partial_rounds» (now (diagonal .entry)) (now (constants .entry))) (λ s. sizesReply s)) (now (store .entry)))
+        × (now (opening .exit) ≡ valueAt 2 (through (holding width «node_size» height «full_rounds» «partial_rounds» (now (diagonal .entry)) (now (constants .entry))) (λ s. sizesReply s)) (now (opening .entry))) ⌝ }
 {
     let numbers = [width, node_size, height, full_rounds, partial_rounds];
     let held = parameters::hold(numbers, diagonal, constants);
@@ -150,7 +149,7 @@ pub extern "C" fn opening_tree_verify(
     leaf: &[u64],
     siblings: &[u64],
 ) -> u8
-    ensures { λ r. ⌜ r ≡ verdictNumber (through (holding width «node_size» height «full_rounds» «partial_rounds» (now (diagonal .entry)) (now (constants .entry))) (λ s. verifyReply p s (now (root .entry)) place (now (leaf .entry)) (now (siblings .entry)))) ⌝ }
+    ensures { λ r. ⌜ r ≡ verdictNumber (through (holding width «node_size» height «full_rounds» «partial_rounds» (now (diagonal .entry)) (now (constants .entry))) (λ s. verifyReply s (now (root .entry)) place (now (leaf .entry)) (now (siblings .entry)))) ⌝ }
 {
     let numbers = [width, node_size, height, full_rounds, partial_rounds];
     let held = parameters::hold(numbers, diagonal, constants);

@@ -15,7 +15,7 @@ use Rattle.refusals.specs.Table.{refusal, firstRefusal}
 use Rattle.refusals.proofs.Table.{Numbered, none, next, numbered-append, refusal-none, first-none}
 use Rattle.poseidon2.specs.Statements.{Width}
 use Rattle.parameters.specs.Refusals.{badWidth, badNodeSize, badFullRounds, badPartialRounds, badHeight, constantCount, badLengths, hasZero, badDiagonal, numberRefusals, shapeRefusals, listRefusals, validationRefusals}
-use Rattle.parameters.specs.ParameterSet.{heldRefusals, setRefusals}
+use Rattle.parameters.specs.ParameterSet.{primeOf, heldRefusals, setRefusals}
 use Rattle.parameters.specs.declared.ParameterSet.{ParameterSet}
 
 -- of a test of two parts that fails neither holds
@@ -134,9 +134,9 @@ pub lists-numbered : (p : ℕ) (D C : List ℕ) → Numbered (listRefusals p D C
 unfolding listRefusals
 lists-numbered p D C = next (lit< tt) (next (lit< tt) (next (lit< tt) none))
 
-pub set-numbered : (p : ℕ) (s : ParameterSet) → Numbered (setRefusals p s)
+pub set-numbered : (s : ParameterSet) → Numbered (setRefusals s)
 unfolding setRefusals heldRefusals
-set-numbered p s = numbered-append (numbers-numbered _ _ _ _ _) (lists-numbered p _ _)
+set-numbered s = numbered-append (numbers-numbered _ _ _ _ _) (lists-numbered (primeOf s) _ _)
 
 pub shape-numbered : (t l h rf rp : ℕ) (D C : List ℕ) → Numbered (shapeRefusals t l h rf rp D C)
 unfolding shapeRefusals

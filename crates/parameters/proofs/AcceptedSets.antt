@@ -12,12 +12,13 @@ use borrow.Author.Tests.{eqb-false}
 use Rattle.modular.specs.Arithmetic.{allWords}
 use Rattle.modular.proofs.Words.{words-at}
 use Rattle.refusals.specs.Table.{firstRefusal}
+use Rattle.fields.proofs.Prime.{positive}
 use Rattle.refusals.proofs.Table.{first-none}
 use Rattle.poseidon2.specs.Layers.{sum}
 use Rattle.poseidon2.specs.Inverse.{inverses}
 use Rattle.poseidon2.specs.Statements.{Words, State, AcceptedDiagonal}
 use Rattle.parameters.specs.Refusals.{constantCount, numberRefusals, listRefusals, badDiagonal}
-use Rattle.parameters.specs.ParameterSet.{heldRefusals, setRefusals}
+use Rattle.parameters.specs.ParameterSet.{primeOf, heldRefusals, setRefusals}
 use Rattle.parameters.specs.declared.ParameterSet.{ParameterSet}
 use Rattle.parameters.proofs.Accepted.{Numbers, Lists, numbers-of, numbers-numbered, lists-of, width-fits}
 use Rattle.parameters.proofs.Lists.{nonzero-at}
@@ -76,10 +77,10 @@ module _ (p t l h rf rp : ℕ) (D C : List ℕ) (positive : 0 < p) (none : first
   width-few = width-fits t (numbers .width)
 
 -- a node is no wider than a row
-pub node-size-fits : (p : ℕ) (s : ParameterSet) → 0 < p → firstRefusal (setRefusals p s) ≡ 0 → s .«node_size» ≤ s .width
+pub node-size-fits : (s : ParameterSet) → firstRefusal (setRefusals s) ≡ 0 → s .«node_size» ≤ s .width
 unfolding setRefusals
-node-size-fits p s positive none =
-    let N = numbers p _ _ _ _ _ _ _ positive none in
+node-size-fits s none =
+    let N = numbers (primeOf s) _ _ _ _ _ _ _ positive none in
     divisor-fits (s .width) (s .«node_size») (N .nodeSize .several)
   where
     divisor-fits : (t l : ℕ) → 2 ≤ t / l → l ≤ t

@@ -5,10 +5,15 @@ use Prim.Native.Nat.{ℕ, _-_}
 use lib.Dec.{eqb}
 use lib.ListN.{length, take, replicate}
 use Rattle.refusals.specs.Table.{Refusal, firstRefusal}
+use Rattle.fields.specs.Prime.{prime}
 use Rattle.parameters.specs.Refusals.{constantCount, numberRefusals, shapeRefusals, listRefusals, validationRefusals}
 use Rattle.parameters.specs.declared.ParameterSet.{ParameterSet}
 use Rattle.parameters.specs.declared.Held.{Held}
 use Rattle.parameters.specs.declared.Validation.{Validation}
+
+-- The prime of a set: today one for every set (Rules 1.1).
+abbrev pub primeOf : ParameterSet → ℕ
+primeOf s = prime
 
 -- A list in n places, with 0 beyond its end.
 unfoldable pub padded : ℕ → List ℕ → List ℕ
@@ -54,6 +59,6 @@ validation p t l h rf rp D C =
 unfoldable pub heldRefusals : ℕ → ℕ → ℕ → ℕ → ℕ → ℕ → List ℕ → List ℕ → List Refusal
 heldRefusals p t l h rf rp D C = numberRefusals t l h rf rp ++ listRefusals p (take t D) (take (constantCount t rf rp) C)
 
-unfoldable pub setRefusals : ℕ → ParameterSet → List Refusal
-setRefusals p s =
-    heldRefusals p (s .width) (s .«node_size») (s .height) (s .«full_rounds») (s .«partial_rounds») (s .diagonal) (s .constants)
+unfoldable pub setRefusals : ParameterSet → List Refusal
+setRefusals s =
+    heldRefusals (primeOf s) (s .width) (s .«node_size») (s .height) (s .«full_rounds») (s .«partial_rounds») (s .diagonal) (s .constants)

@@ -4,11 +4,10 @@ ghost use mathlib.Core.Bool.{true, false};
 ghost use Prim.Native.Nat.{_≤_};
 ghost use lib.ListN.{length, take, getD};
 ghost use Rattle.modular.specs.Arithmetic.{allWords};
-ghost use Rattle.modular.specs.Goldilocks.{p};
+ghost use Rattle.fields.specs.Prime.{prime};
 ghost use Rattle.refusals.specs.Table.{firstRefusal};
 ghost use Rattle.parameters.specs.ParameterSet.{padded, held, noSet, holding, validation, heldRefusals};
 ghost use Rattle.parameters.specs.Refusals.{badWidth, badNodeSize, badFullRounds, badPartialRounds, badHeight, badLengths, hasZero, badDiagonal, numberRefusals, shapeRefusals, listRefusals, validationRefusals};
-use field::P;
 
 pub struct ParameterSet {
     pub width: u64,
@@ -108,11 +107,12 @@ fn bad_height(arity: u64, height: u64) -> bool
 
 // Whether every number is a word.
 pub fn all_words(numbers: &[u64]) -> bool
-    ensures { λ r. ⌜ r ≡ allWords p (now (numbers .entry)) ⌝ }
+    ensures { λ r. ⌜ r ≡ allWords prime (now (numbers .entry)) ⌝ }
 {
+    let order = fields::order();
     let mut i = 0;
     while i < numbers.len() {
-        if P <= numbers[i] {
+        if order <= numbers[i] {
             return false;
         }
         i += 1;
@@ -136,18 +136,18 @@ fn has_zero(numbers: &[u64]) -> bool
 // Whether the inverses of D and 1 sum to 0, without an inversion: that sum times the product of all D is the product plus the sum
 // of all products that leave one out, two products a word.
 fn bad_diagonal(diagonal: &[u64]) -> bool
-    requires { ⌜ (allWords p (now diagonal) ≡ true) × (hasZero (now diagonal) ≡ false) ⌝ }
-    ensures { λ r. ⌜ r ≡ badDiagonal p (now (diagonal .entry)) ⌝ }
+    requires { ⌜ (allWords prime (now diagonal) ≡ true) × (hasZero (now diagonal) ≡ false) ⌝ }
+    ensures { λ r. ⌜ r ≡ badDiagonal prime (now (diagonal .entry)) ⌝ }
 {
     let mut all: u64 = 1;
     let mut but_one: u64 = 0;
     let mut i = 0;
     while i < diagonal.len() {
-        but_one = field::lazy::product_sum(but_one, diagonal[i], all);
-        all = field::lazy::product(all, diagonal[i]);
+        but_one = fields::lazy_product_sum(but_one, diagonal[i], all);
+        all = fields::lazy_product(all, diagonal[i]);
         i += 1;
     }
-    if field::sum(field::lazy::residue(all), field::lazy::residue(but_one)) == 0 {
+    if fields::sum(fields::residue(all), fields::residue(but_one)) == 0 {
         return true;
     }
     false
@@ -183,7 +183,7 @@ fn refusal_of_numbers(
 
 // The first of refusals 7 to 9 that applies, or 0.
 fn refusal_of_lists(diagonal: &[u64], constants: &[u64]) -> u8
-    ensures { λ r. ⌜ r ≡ firstRefusal (listRefusals p (now (diagonal .entry)) (now (constants .entry))) ⌝ }
+    ensures { λ r. ⌜ r ≡ firstRefusal (listRefusals prime (now (diagonal .entry)) (now (constants .entry))) ⌝ }
 {
     if !all_words(diagonal) {
         return 7;
@@ -247,7 +247,7 @@ pub fn refusal_of(
     diagonal: &[u64],
     constants: &[u64],
 ) -> u8
-    ensures { λ r. ⌜ r ≡ firstRefusal (validationRefusals p width «node_size» height «full_rounds» «partial_rounds» (now (diagonal .entry)) (now (constants .entry))) ⌝ }
+    ensures { λ r. ⌜ r ≡ firstRefusal (validationRefusals prime width «node_size» height «full_rounds» «partial_rounds» (now (diagonal .entry)) (now (constants .entry))) ⌝ }
 {
     let numbers = [width, node_size, height, full_rounds, partial_rounds];
     let number = refusal_of_shape(numbers, diagonal, constants);
@@ -340,7 +340,7 @@ pub fn validate(
     diagonal: &[u64],
     constants: &[u64],
 ) -> Validation
-    ensures { λ r. ⌜ r ≡ validation p width «node_size» height «full_rounds» «partial_rounds» (now (diagonal .entry)) (now (constants .entry)) ⌝ }
+    ensures { λ r. ⌜ r ≡ validation prime width «node_size» height «full_rounds» «partial_rounds» (now (diagonal .entry)) (now (constants .entry)) ⌝ }
 {
     let numbers = [width, node_size, height, full_rounds, partial_rounds];
     let held = hold(numbers, diagonal, constants);
@@ -392,7 +392,7 @@ pub fn refusal_of_set(
     diagonal: &[u64; 12],
     constants: &[u64; 208],
 ) -> u8
-    ensures { λ r. ⌜ r ≡ firstRefusal (heldRefusals p width «node_size» height «full_rounds» «partial_rounds» (now (diagonal .entry)) (now (constants .entry))) ⌝ }
+    ensures { λ r. ⌜ r ≡ firstRefusal (heldRefusals prime width «node_size» height «full_rounds» «partial_rounds» (now (diagonal .entry)) (now (constants .entry))) ⌝ }
 {
     let number = refusal_of_numbers(width, node_size, height, full_rounds, partial_rounds);
     if number != 0 {

@@ -15,7 +15,7 @@ use Rattle.refusals.specs.Table.{Refusal, refusal, notWords, firstRefusal, refu
 use Rattle.refusals.proofs.Table.{Numbered, next, numbered-append, refusal-none, first-front, first-back, first-none, reply-refused, written-after, applied, passed}
 use Rattle.parameters.specs.declared.ParameterSet.{ParameterSet}
 use Rattle.parameters.specs.declared.Validation.{Validation}
-use Rattle.parameters.specs.ParameterSet.{held, padded, validation, heldRefusals, setRefusals}
+use Rattle.parameters.specs.ParameterSet.{primeOf, held, padded, validation, heldRefusals, setRefusals}
 use Rattle.parameters.specs.Refusals.{constantCount, numberRefusals, listRefusals, badLengths, validationRefusals}
 use Rattle.parameters.proofs.Accepted.{numbers-of, numbers-numbered, lists-numbered, set-numbered, width-fits}
 use Rattle.merkle.specs.Storeless.{storelessRoot}
@@ -63,65 +63,65 @@ and-true true b e = e
 and-true false b e = refl
 
 -- What validation says of its refusals.
-module _ (p t l h rf rp : ℕ) (D C : List ℕ) where
+module _ (t l h rf rp : ℕ) (D C : List ℕ) where
   abbrev refusals : List Refusal
-  refusals = validationRefusals p t l h rf rp D C
+  refusals = validationRefusals (primeOf (held t l h rf rp D C)) t l h rf rp D C
 
   all-numbered : Numbered refusals
   unfolding validationRefusals
-  all-numbered = numbered-append (numbers-numbered t l h rf rp) (next (lit< tt) (lists-numbered p D C))
+  all-numbered = numbered-append (numbers-numbered t l h rf rp) (next (lit< tt) (lists-numbered (primeOf (held t l h rf rp D C)) D C))
 
-  number-is : validation p t l h rf rp D C .number ≡ firstRefusal refusals
+  number-is : validation (primeOf (held t l h rf rp D C)) t l h rf rp D C .number ≡ firstRefusal refusals
   unfolding validation
   number-is = refl
 
   module _ (none-applies : firstRefusal refusals ≡ 0) where
-    set-is : validation p t l h rf rp D C .parameters ≡ held t l h rf rp D C
+    set-is : validation (primeOf (held t l h rf rp D C)) t l h rf rp D C .parameters ≡ held t l h rf rp D C
     unfolding validation
     set-is = rw (eq-eqb (firstRefusal refusals) 0 none-applies)
 
-    parts : (firstRefusal (numberRefusals t l h rf rp) ≡ 0) × (firstRefusal (refusal 6 (badLengths t rf rp D C) ∷ listRefusals p D C) ≡ 0)
+    parts : (firstRefusal (numberRefusals t l h rf rp) ≡ 0) × (firstRefusal (refusal 6 (badLengths t rf rp D C) ∷ listRefusals (primeOf (held t l h rf rp D C)) D C) ≡ 0)
     unfolding validationRefusals
-    parts = first-none (numberRefusals t l h rf rp) (refusal 6 (badLengths t rf rp D C) ∷ listRefusals p D C) (numbers-numbered t l h rf rp) none-applies
+    parts = first-none (numberRefusals t l h rf rp) (refusal 6 (badLengths t rf rp D C) ∷ listRefusals (primeOf (held t l h rf rp D C)) D C) (numbers-numbered t l h rf rp) none-applies
 
     lengths : (length D ≡ t) × (length C ≡ constantCount t rf rp)
     unfolding badLengths
     lengths =
-        let b = not-false (eqb (length D) t && eqb (length C) (constantCount t rf rp)) (refusal-none 5 (badLengths t rf rp D C) (listRefusals p D C) (parts .1) .0) in (
+        let b = not-false (eqb (length D) t && eqb (length C) (constantCount t rf rp)) (refusal-none 5 (badLengths t rf rp D C) (listRefusals (primeOf (held t l h rf rp D C)) D C) (parts .1) .0) in (
           eqb-true (length D) t (left-true (eqb (length D) t) (eqb (length C) (constantCount t rf rp)) b),
           eqb-true (length C) (constantCount t rf rp) (right-true (eqb (length D) t) (eqb (length C) (constantCount t rf rp)) b),
         )
 
     -- the set that is held is not refused itself
-    passes-again : firstRefusal (setRefusals p (held t l h rf rp D C)) ≡ 0
+    passes-again : firstRefusal (setRefusals (held t l h rf rp D C)) ≡ 0
     unfolding setRefusals heldRefusals held padded
     passes-again =
         rw (take-at D _ t (lengths .0), take-at C _ (constantCount t rf rp) (lengths .1))
-        (first-back (numberRefusals t l h rf rp) (listRefusals p D C) (numbers-numbered t l h rf rp) (parts .0)
-        ∙ refusal-none 5 (badLengths t rf rp D C) (listRefusals p D C) (parts .1) .1)
+        (first-back (numberRefusals t l h rf rp) (listRefusals (primeOf (held t l h rf rp D C)) D C) (numbers-numbered t l h rf rp) (parts .0)
+        ∙ refusal-none 5 (badLengths t rf rp D C) (listRefusals (primeOf (held t l h rf rp D C)) D C) (parts .1) .1)
 
     node-few : l ≤ 6
     node-few =
         let N = numbers-of t l h rf rp (parts .0) in
         omega (arith, mul-le-mul-right l (N .nodeSize .several), div-mul-le-self t l, width-fits t (N .width))
 
-module _ (p : ℕ) (ns : List ℕ) (v : Validation) (e : v ≡ readValidation p ns) where
+module _ (ns : List ℕ) (v : Validation) (e : v ≡ readValidation ns) where
   abbrev validRefusals : List Refusal
-  validRefusals = refusals p (readWidth ns) (readNodeSize ns) (readHeight ns) (readFullRounds ns) (readPartialRounds ns) (readDiagonal ns) (readConstants ns)
+  validRefusals = refusals (readWidth ns) (readNodeSize ns) (readHeight ns) (readFullRounds ns) (readPartialRounds ns) (readDiagonal ns) (readConstants ns)
 
   abbrev leafRefusals : List Refusal
-  leafRefusals = refusal 10 (not (has (readLeaves ns) (leafWords p (readSet ns)))) ∷ notWords p (readLeaves ns) ∷ []
+  leafRefusals = refusal 10 (not (has (readLeaves ns) (leafWords (readSet ns)))) ∷ notWords (primeOf (readSet ns)) (readLeaves ns) ∷ []
 
   first-is : v .number ≡ firstRefusal validRefusals
   unfolding readValidation
-  first-is = ap (λ (w : Validation). w .number) e ∙ number-is p _ _ _ _ _ _ _
+  first-is = ap (λ (w : Validation). w .number) e ∙ number-is _ _ _ _ _ _ _
 
   -- A set that is refused.
-  pub is-refused : v .number ≢ 0 → reply (readRefusals p ns) (readRoot p ns) ≡ refused (v .number)
+  pub is-refused : v .number ≢ 0 → reply (readRefusals ns) (readRoot ns) ≡ refused (v .number)
   unfolding readRefusals
   is-refused o =
       let front : firstRefusal (validRefusals ++ leafRefusals) ≡ firstRefusal validRefusals = first-front validRefusals leafRefusals (λ z. o (first-is ∙ z)) in
-      reply-refused (validRefusals ++ leafRefusals) (readRoot p ns) (λ z. o (first-is ∙ sym front ∙ z)) ∙ ap refused (front ∙ sym first-is)
+      reply-refused (validRefusals ++ leafRefusals) (readRoot ns) (λ z. o (first-is ∙ sym front ∙ z)) ∙ ap refused (front ∙ sym first-is)
 
   module _ (z : v .number ≡ 0) where
     none-of : firstRefusal validRefusals ≡ 0
@@ -129,48 +129,48 @@ module _ (p : ℕ) (ns : List ℕ) (v : Validation) (e : v ≡ readValidation p 
 
     set-of : v .parameters ≡ readSet ns
     unfolding readValidation
-    set-of = ap (λ (w : Validation). w .parameters) e ∙ set-is p _ _ _ _ _ _ _ none-of
+    set-of = ap (λ (w : Validation). w .parameters) e ∙ set-is _ _ _ _ _ _ _ none-of
 
     pub node-size-few : v .parameters .«node_size» ≤ 6
     unfolding held
-    node-size-few = rw set-of (node-few p _ _ _ _ _ _ _ none-of)
+    node-size-few = rw set-of (node-few _ _ _ _ _ _ _ none-of)
 
     module _ (node : List ℕ) (long : length node ≡ v .parameters .«node_size») where
       -- the storeless root's reply is that of the leaves' refusals
-      by-leaves : storelessReply p (v .parameters) (readLeaves ns) node ≡ reply leafRefusals []
+      by-leaves : storelessReply (v .parameters) (readLeaves ns) node ≡ reply leafRefusals []
       unfolding storelessReply storelessRefusals
-      by-leaves = rw (and-true (has (readLeaves ns) (leafWords p (v .parameters))) (has node (v .parameters .«node_size»)) (eq-eqb _ _ long), set-of)
-          (reply-back (setRefusals p (readSet ns)) leafRefusals [] (set-numbered p (readSet ns)) (passes-again p _ _ _ _ _ _ _ none-of))
+      by-leaves = rw (and-true (has (readLeaves ns) (leafWords (v .parameters))) (has node (v .parameters .«node_size»)) (eq-eqb _ _ long), set-of)
+          (reply-back (setRefusals (readSet ns)) leafRefusals [] (set-numbered (readSet ns)) (passes-again _ _ _ _ _ _ _ none-of))
 
-      by-refusals : reply (readRefusals p ns) (readRoot p ns) ≡ reply leafRefusals (readRoot p ns)
+      by-refusals : reply (readRefusals ns) (readRoot ns) ≡ reply leafRefusals (readRoot ns)
       unfolding readRefusals
-      by-refusals = reply-back validRefusals leafRefusals (readRoot p ns) (all-numbered p _ _ _ _ _ _ _) none-of
+      by-refusals = reply-back validRefusals leafRefusals (readRoot ns) (all-numbered _ _ _ _ _ _ _) none-of
 
       -- The leaves are refused, or there is a root.
-      pub root-refused : (n : ℕ) → refused n ≡ storelessReply p (v .parameters) (readLeaves ns) node → reply (readRefusals p ns) (readRoot p ns) ≡ refused n
-      root-refused n r = by-refusals ∙ refused-too leafRefusals [] (readRoot p ns) n (r ∙ by-leaves)
+      pub root-refused : (n : ℕ) → refused n ≡ storelessReply (v .parameters) (readLeaves ns) node → reply (readRefusals ns) (readRoot ns) ≡ refused n
+      root-refused n r = by-refusals ∙ refused-too leafRefusals [] (readRoot ns) n (r ∙ by-leaves)
 
-      pub root-done : done [] ≡ storelessReply p (v .parameters) (readLeaves ns) node
-          → reply (readRefusals p ns) (readRoot p ns) ≡ done (storelessRooted p (v .parameters) (readLeaves ns) node)
+      pub root-done : done [] ≡ storelessReply (v .parameters) (readLeaves ns) node
+          → reply (readRefusals ns) (readRoot ns) ≡ done (storelessRooted (v .parameters) (readLeaves ns) node)
       unfolding storelessRooted readRoot held
       root-done r =
-          by-refusals ∙ done-too leafRefusals [] (readRoot p ns) (r ∙ by-leaves)
-          ∙ ap done (written-after node (readRoot p ns) (sym r) ∙ ap (λ (s : ParameterSet). after (storelessReply p (v .parameters) (readLeaves ns) node) node (storelessRoot (treeOf p s) (s .height) (readLeaves ns))) (sym set-of))
+          by-refusals ∙ done-too leafRefusals [] (readRoot ns) (r ∙ by-leaves)
+          ∙ ap done (written-after node (readRoot ns) (sym r) ∙ ap (λ (s : ParameterSet). after (storelessReply (v .parameters) (readLeaves ns) node) node (storelessRoot (treeOf s) (s .height) (readLeaves ns))) (sym set-of))
 
       -- The program's text, by the outcome.
-      pub refused-text : (leaves : List ℕ) (o : Outcome) (n : ℕ) → leaves ≡ readLeaves ns → o ≡ Refused n → outcomeReply o ≡ storelessReply p (v .parameters) leaves node
-          → refusedLine n ≡ replyText (reply (readRefusals p ns) (readRoot p ns))
+      pub refused-text : (leaves : List ℕ) (o : Outcome) (n : ℕ) → leaves ≡ readLeaves ns → o ≡ Refused n → outcomeReply o ≡ storelessReply (v .parameters) leaves node
+          → refusedLine n ≡ replyText (reply (readRefusals ns) (readRoot ns))
       unfolding outcomeReply replyText
       refused-text leaves o n same told r =
-          let said : refused n ≡ storelessReply p (v .parameters) (readLeaves ns) node = sym (ap outcomeReply told) ∙ r ∙ ap (λ (xs : List ℕ). storelessReply p (v .parameters) xs node) same in
+          let said : refused n ≡ storelessReply (v .parameters) (readLeaves ns) node = sym (ap outcomeReply told) ∙ r ∙ ap (λ (xs : List ℕ). storelessReply (v .parameters) xs node) same in
           sym (ap replyText (root-refused n said))
 
-      pub done-text : (leaves written : List ℕ) (o : Outcome) → leaves ≡ readLeaves ns → o ≡ Done → outcomeReply o ≡ storelessReply p (v .parameters) leaves node
-          → written ≡ storelessRooted p (v .parameters) leaves node → lines written ≡ replyText (reply (readRefusals p ns) (readRoot p ns))
+      pub done-text : (leaves written : List ℕ) (o : Outcome) → leaves ≡ readLeaves ns → o ≡ Done → outcomeReply o ≡ storelessReply (v .parameters) leaves node
+          → written ≡ storelessRooted (v .parameters) leaves node → lines written ≡ replyText (reply (readRefusals ns) (readRoot ns))
       unfolding outcomeReply replyText
       done-text leaves written o same told r w =
-          let made : done [] ≡ storelessReply p (v .parameters) (readLeaves ns) node = sym (ap outcomeReply told) ∙ r ∙ ap (λ (xs : List ℕ). storelessReply p (v .parameters) xs node) same in
-          ap lines (w ∙ ap (λ (xs : List ℕ). storelessRooted p (v .parameters) xs node) same) ∙ sym (ap replyText (root-done made))
+          let made : done [] ≡ storelessReply (v .parameters) (readLeaves ns) node = sym (ap outcomeReply told) ∙ r ∙ ap (λ (xs : List ℕ). storelessReply (v .parameters) xs node) same in
+          ap lines (w ∙ ap (λ (xs : List ℕ). storelessRooted (v .parameters) xs node) same) ∙ sym (ap replyText (root-done made))
 
 -- The byte count, which is tested first.
 module _ (n : ℕ) where
@@ -190,17 +190,17 @@ module _ (n : ℕ) where
   unfolding badByteCount
   count-right h g e = rw (le-ltb n 40 h, le-ltb 65536 n g, eq-eqb (n % 8) 0 e)
 
-pub text-of-bad-count : (p : ℕ) (bytes : List ℕ) → badByteCount (length bytes) ≡ true → refusedLine 10 ≡ rootText p bytes
+pub text-of-bad-count : (bytes : List ℕ) → badByteCount (length bytes) ≡ true → refusedLine 10 ≡ rootText bytes
 unfolding rootText programReply replyText
-text-of-bad-count p bytes e = sym (ap replyText (applied 10 (badByteCount (length bytes)) _ _ e))
+text-of-bad-count bytes e = sym (ap replyText (applied 10 (badByteCount (length bytes)) _ _ e))
 
-pub text-of-numbers : (p : ℕ) (bytes ns : List ℕ) (n : ℕ) → badByteCount (length bytes) ≡ false → n ≡ length bytes / 8 → ns ≡ numbersOf n bytes
-    → replyText (reply (readRefusals p ns) (readRoot p ns)) ≡ rootText p bytes
+pub text-of-numbers : (bytes ns : List ℕ) (n : ℕ) → badByteCount (length bytes) ≡ false → n ≡ length bytes / 8 → ns ≡ numbersOf n bytes
+    → replyText (reply (readRefusals ns) (readRoot ns)) ≡ rootText bytes
 unfolding rootText programReply
-text-of-numbers p bytes ns n e i d =
-    ap (λ (xs : List ℕ). replyText (reply (readRefusals p xs) (readRoot p xs))) (d ∙ ap (λ (k : ℕ). numbersOf k bytes) i)
+text-of-numbers bytes ns n e i d =
+    ap (λ (xs : List ℕ). replyText (reply (readRefusals xs) (readRoot xs))) (d ∙ ap (λ (k : ℕ). numbersOf k bytes) i)
     ∙ sym (ap replyText (passed 10 (badByteCount (length bytes)) _ _ e))
 
 pub empty-input : EmptyInput
 unfolding refusedLine decimal digits
-empty-input p = sym (text-of-bad-count p [] (count-short 0 (lit< tt)))
+empty-input = sym (text-of-bad-count [] (count-short 0 (lit< tt)))

@@ -8,7 +8,7 @@ use lib.ListN.{length, getD, take, drop}
 use Rattle.refusals.specs.Table.{Refusal, refusal, notWords, Reply, refused, done, reply}
 use Rattle.parameters.specs.declared.ParameterSet.{ParameterSet}
 use Rattle.parameters.specs.declared.Validation.{Validation}
-use Rattle.parameters.specs.ParameterSet.{held, validation}
+use Rattle.parameters.specs.ParameterSet.{primeOf, held, validation}
 use Rattle.parameters.specs.Refusals.{constantCount, validationRefusals}
 use Rattle.merkle.specs.Storeless.{storelessRoot}
 use Rattle.trees.specs.SetTrees.{treeOf, leafWords}
@@ -61,28 +61,28 @@ module _ (numbers : List ℕ) where
   readSet = held readWidth readNodeSize readHeight readFullRounds readPartialRounds readDiagonal readConstants
 
 -- What validation answers to the numbers that were read. A list that ended too early is refused with 6, if nothing lower applies.
-unfoldable pub readValidation : ℕ → List ℕ → Validation
-readValidation p ns =
-    validation p (readWidth ns) (readNodeSize ns) (readHeight ns) (readFullRounds ns) (readPartialRounds ns) (readDiagonal ns) (readConstants ns)
+unfoldable pub readValidation : List ℕ → Validation
+readValidation ns =
+    validation (primeOf (readSet ns)) (readWidth ns) (readNodeSize ns) (readHeight ns) (readFullRounds ns) (readPartialRounds ns) (readDiagonal ns) (readConstants ns)
 
 -- The refusals of the numbers: those of validation; then 10 and 12 for the leaves (Rules 8.8).
-unfoldable pub readRefusals : ℕ → List ℕ → List Refusal
-readRefusals p ns =
-    validationRefusals p (readWidth ns) (readNodeSize ns) (readHeight ns) (readFullRounds ns) (readPartialRounds ns) (readDiagonal ns) (readConstants ns)
-    ++ (refusal 10 (not (has (readLeaves ns) (leafWords p (readSet ns)))) ∷ notWords p (readLeaves ns) ∷ [])
+unfoldable pub readRefusals : List ℕ → List Refusal
+readRefusals ns =
+    validationRefusals (primeOf (readSet ns)) (readWidth ns) (readNodeSize ns) (readHeight ns) (readFullRounds ns) (readPartialRounds ns) (readDiagonal ns) (readConstants ns)
+    ++ (refusal 10 (not (has (readLeaves ns) (leafWords (readSet ns)))) ∷ notWords (primeOf (readSet ns)) (readLeaves ns) ∷ [])
 
-unfoldable pub readRoot : ℕ → List ℕ → List ℕ
-readRoot p ns = storelessRoot (treeOf p (readSet ns)) (readHeight ns) (readLeaves ns)
+unfoldable pub readRoot : List ℕ → List ℕ
+readRoot ns = storelessRoot (treeOf (readSet ns)) (readHeight ns) (readLeaves ns)
 
 -- The byte counts that are refused (Rules 7.5).
 unfoldable pub badByteCount : ℕ → Bool
 badByteCount n = ltb n 40 || ltb 65536 n || not (eqb (n % 8) 0)
 
 -- The program's reply: 10 for the byte count comes before all other refusals.
-unfoldable pub programReply : ℕ → List ℕ → Reply
-programReply p bytes =
+unfoldable pub programReply : List ℕ → Reply
+programReply bytes =
     let ns = numbersOf (length bytes / 8) bytes in
-    reply (refusal 10 (badByteCount (length bytes)) ∷ readRefusals p ns) (readRoot p ns)
+    reply (refusal 10 (badByteCount (length bytes)) ∷ readRefusals ns) (readRoot ns)
 
 -- A number in decimal, as ASCII: the last digit follows the text of the others. It has at most as many digits as the first number says.
 unfoldable pub digits : ℕ → ℕ → List ℕ
@@ -113,16 +113,16 @@ replyText (refused n) = refusedLine n
 replyText (done words) = lines words
 
 -- The text for the numbers that were read.
-abbrev pub readText : ℕ → List ℕ → List ℕ
-readText p ns = replyText (reply (readRefusals p ns) (readRoot p ns))
+abbrev pub readText : List ℕ → List ℕ
+readText ns = replyText (reply (readRefusals ns) (readRoot ns))
 
 -- The program's standard output for its standard input.
-unfoldable pub rootText : ℕ → List ℕ → List ℕ
-rootText p bytes = replyText (programReply p bytes)
+unfoldable pub rootText : List ℕ → List ℕ
+rootText bytes = replyText (programReply bytes)
 
 -- No input at all is refused with 10 (Rules 7.5).
 abbrev pub EmptyInput : Type 0
-EmptyInput = (p : ℕ) → rootText p [] ≡ refusedWord ++ (49 ∷ 48 ∷ newline ∷ [])
+EmptyInput = rootText [] ≡ refusedWord ++ (49 ∷ 48 ∷ newline ∷ [])
 
 -- The output with a text at its start: beyond the text it is as it was.
 unfoldable pub written : List ℕ → List ℕ → List ℕ

@@ -2,7 +2,6 @@
 ghost use mathlib.Core.Path.{_≡_};
 ghost use Prim.Native.Nat.{_+_, _/_, _≤_, _<_, min};
 ghost use lib.ListN.{length, take, drop, getD};
-ghost use Rattle.modular.specs.Goldilocks.{p};
 ghost use Rattle.parameters.specs.Refusals.{constantCount};
 ghost use Rattle.merkle.specs.Lists.{put};
 ghost use Rattle.program.specs.Program.{littleEndian, numbersOf, readWidth, readCount, readLeaves, readValidation, decimal, lines, refusedLine, readText, rootText, written};
@@ -171,7 +170,7 @@ fn leaves_read(numbers: &[u64]) -> &[u64]
 
 // The set of the numbers, or the refusal of it.
 fn set_read(numbers: &[u64]) -> Validation
-    ensures { λ r. ⌜ r ≡ readValidation p (now (numbers .entry)) ⌝ }
+    ensures { λ r. ⌜ r ≡ readValidation (now (numbers .entry)) ⌝ }
 {
     let width = parameters::number_at(numbers, 0);
     let lists = beyond(numbers, 5);
@@ -190,8 +189,8 @@ fn set_read(numbers: &[u64]) -> Validation
 // The text for the numbers that were read.
 fn text_of(numbers: &[u64], output: &mut [u8]) -> usize
     requires { ⌜ length (now output) ≡ 128 ⌝ }
-    ensures { λ r. ⌜ r ≡ length (readText p (now (numbers .entry))) ⌝ }
-    ensures { λ r. ⌜ now (output .exit) ≡ written (readText p (now (numbers .entry))) (now (output .entry)) ⌝ }
+    ensures { λ r. ⌜ r ≡ length (readText (now (numbers .entry))) ⌝ }
+    ensures { λ r. ⌜ now (output .exit) ≡ written (readText (now (numbers .entry))) (now (output .entry)) ⌝ }
 {
     let validated = set_read(numbers);
     if validated.number != 0 {
@@ -209,8 +208,8 @@ fn text_of(numbers: &[u64], output: &mut [u8]) -> usize
 
 // The text of the root program for its input: how many bytes of the output it is.
 pub fn root_text(input: &[u8], output: &mut [u8; 128]) -> usize
-    ensures { λ r. ⌜ r ≡ length (rootText p (now (input .entry))) ⌝ }
-    ensures { λ r. ⌜ now (output .exit) ≡ written (rootText p (now (input .entry))) (now (output .entry)) ⌝ }
+    ensures { λ r. ⌜ r ≡ length (rootText (now (input .entry))) ⌝ }
+    ensures { λ r. ⌜ now (output .exit) ≡ written (rootText (now (input .entry))) (now (output .entry)) ⌝ }
 {
     if input.len() < 40 {
         return put_refused(10, output);

@@ -5,12 +5,11 @@ use mathlib.Core.Bool.{Bool, true, false, not, _&&_}
 use mathlib.Core.List.{List, []}
 use Prim.Native.Nat.{ℕ, zero, suc, _^_}
 use lib.Dec.{lit<, leb}
-use Rattle.modular.specs.Goldilocks.{p}
 use Rattle.modular.specs.Arithmetic.{allWords}
 use Rattle.refusals.specs.Table.{firstRefusal}
 use Rattle.refusals.proofs.Table.{Numbered, none as no-refusals, next, numbered-append, refusal-applies, refusal-passes, first-front, first-back}
 use Rattle.parameters.specs.declared.ParameterSet.{ParameterSet}
-use Rattle.parameters.specs.ParameterSet.{setRefusals}
+use Rattle.parameters.specs.ParameterSet.{primeOf, setRefusals}
 use Rattle.parameters.proofs.Accepted.{set-numbered}
 use Rattle.trees.specs.SetTrees.{leafCount, storeWords}
 use Rattle.tree_entries.specs.Trees.{has}
@@ -18,31 +17,31 @@ use Rattle.push_entries.specs.Ends.{earlyRefusals, begun, beginOf}
 
 module _ (s : ParameterSet) (store : List ℕ) (n : ℕ) where
   abbrev badLengths : Bool
-  badLengths = not (has store (storeWords p s) && leb n (2 ^ 32))
+  badLengths = not (has store (storeWords s) && leb n (2 ^ 32))
 
-  pub early-numbered : Numbered (earlyRefusals p s store n)
+  pub early-numbered : Numbered (earlyRefusals s store n)
   unfolding earlyRefusals
-  early-numbered = numbered-append (set-numbered p s) (next (lit< tt) no-refusals)
+  early-numbered = numbered-append (set-numbered s) (next (lit< tt) no-refusals)
 
-  pub early-set : firstRefusal (setRefusals p s) ≢ 0 → firstRefusal (earlyRefusals p s store n) ≡ firstRefusal (setRefusals p s)
+  pub early-set : firstRefusal (setRefusals s) ≢ 0 → firstRefusal (earlyRefusals s store n) ≡ firstRefusal (setRefusals s)
   unfolding earlyRefusals
-  early-set o = first-front (setRefusals p s) _ o
+  early-set o = first-front (setRefusals s) _ o
 
-  pub early-ten : firstRefusal (setRefusals p s) ≡ 0 → badLengths ≡ true → firstRefusal (earlyRefusals p s store n) ≡ 10
+  pub early-ten : firstRefusal (setRefusals s) ≡ 0 → badLengths ≡ true → firstRefusal (earlyRefusals s store n) ≡ 10
   unfolding earlyRefusals
-  early-ten z e = first-back (setRefusals p s) _ (set-numbered p s) z ∙ refusal-applies 10 badLengths _ e
+  early-ten z e = first-back (setRefusals s) _ (set-numbered s) z ∙ refusal-applies 10 badLengths _ e
 
-  pub early-none : firstRefusal (setRefusals p s) ≡ 0 → badLengths ≡ false → firstRefusal (earlyRefusals p s store n) ≡ 0
+  pub early-none : firstRefusal (setRefusals s) ≡ 0 → badLengths ≡ false → firstRefusal (earlyRefusals s store n) ≡ 0
   unfolding earlyRefusals firstRefusal
-  early-none z e = first-back (setRefusals p s) _ (set-numbered p s) z ∙ refusal-passes 10 badLengths [] e
+  early-none z e = first-back (setRefusals s) _ (set-numbered s) z ∙ refusal-passes 10 badLengths [] e
 
-  pub begin-refused : (k : ℕ) → k ≢ 0 → firstRefusal (earlyRefusals p s store n) ≡ k
-      → record { number = k; places = 0; placed = true; words = true; made = 0 } ≡ beginOf p s store n
+  pub begin-refused : (k : ℕ) → k ≢ 0 → firstRefusal (earlyRefusals s store n) ≡ k
+      → record { number = k; places = 0; placed = true; words = true; made = 0 } ≡ beginOf s store n
   unfolding beginOf
   begin-refused zero o e = absurd (o refl)
-  begin-refused (suc k) o e = ap (λ (r : ℕ). begun r (leafCount p s) (allWords p store)) (sym e)
+  begin-refused (suc k) o e = ap (λ (r : ℕ). begun r (leafCount s) (allWords (primeOf s) store)) (sym e)
 
-  pub begin-clear : (m : ℕ) (w : Bool) → m ≡ leafCount p s → w ≡ allWords p store → firstRefusal (earlyRefusals p s store n) ≡ 0
-      → record { number = 0; places = m; placed = true; words = w; made = 0 } ≡ beginOf p s store n
+  pub begin-clear : (m : ℕ) (w : Bool) → m ≡ leafCount s → w ≡ allWords (primeOf s) store → firstRefusal (earlyRefusals s store n) ≡ 0
+      → record { number = 0; places = m; placed = true; words = w; made = 0 } ≡ beginOf s store n
   unfolding beginOf
-  begin-clear m w f g e = (λ i. begun 0 (f i) (g i)) ∙ ap (λ (r : ℕ). begun r (leafCount p s) (allWords p store)) (sym e)
+  begin-clear m w f g e = (λ i. begun 0 (f i) (g i)) ∙ ap (λ (r : ℕ). begun r (leafCount s) (allWords (primeOf s) store)) (sym e)

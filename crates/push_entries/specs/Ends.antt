@@ -7,7 +7,7 @@ use lib.Dec.{eqb, leb}
 use Rattle.modular.specs.Arithmetic.{allWords}
 use Rattle.refusals.specs.Table.{Refusal, refusal, firstRefusal}
 use Rattle.parameters.specs.declared.ParameterSet.{ParameterSet}
-use Rattle.parameters.specs.ParameterSet.{setRefusals}
+use Rattle.parameters.specs.ParameterSet.{primeOf, setRefusals}
 use Rattle.trees.specs.SetTrees.{leafCount, storeWords}
 use Rattle.tree_entries.specs.Trees.{has}
 use Rattle.change_entries.specs.declared.changed.Changed.{Changed}
@@ -15,16 +15,16 @@ use Rattle.change_entries.specs.declared.changed.Changed.the-variants.{Compress
 use Rattle.pushes.specs.declared.tally.Tally.{Tally}
 
 -- refusals 1 to 10, for n records
-unfoldable pub earlyRefusals : ℕ → ParameterSet → List ℕ → ℕ → List Refusal
-earlyRefusals p s store n = setRefusals p s ++ (refusal 10 (not (has store (storeWords p s) && leb n (2 ^ 32))) ∷ [])
+unfoldable pub earlyRefusals : ParameterSet → List ℕ → ℕ → List Refusal
+earlyRefusals s store n = setRefusals s ++ (refusal 10 (not (has store (storeWords s) && leb n (2 ^ 32))) ∷ [])
 
 -- what a push begins with: the first of these refusals, or 0; then the places and whether the store is words
 abbrev pub begun : ℕ → ℕ → Bool → Tally
 begun zero n w = record { number = 0; places = n; placed = true; words = w; made = 0 }
 begun (suc r) n w = record { number = suc r; places = 0; placed = true; words = true; made = 0 }
 
-unfoldable pub beginOf : ℕ → ParameterSet → List ℕ → ℕ → Tally
-beginOf p s store n = begun (firstRefusal (earlyRefusals p s store n)) (leafCount p s) (allWords p store)
+unfoldable pub beginOf : ParameterSet → List ℕ → ℕ → Tally
+beginOf s store n = begun (firstRefusal (earlyRefusals s store n)) (leafCount s) (allWords (primeOf s) store)
 
 -- the first refusal's number, or the count
 unfoldable pub finishOf : Tally → Changed

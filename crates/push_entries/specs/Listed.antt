@@ -4,22 +4,22 @@ use mathlib.Core.List.{List, [], _∷_, _++_}
 use Prim.Native.Nat.{ℕ}
 use Rattle.refusals.specs.Table.{Refusal, refusal, notWords, Reply, reply, after}
 use Rattle.parameters.specs.declared.ParameterSet.{ParameterSet}
-use Rattle.parameters.specs.ParameterSet.{setRefusals}
+use Rattle.parameters.specs.ParameterSet.{primeOf, setRefusals}
 use Rattle.trees.specs.SetTrees.{leafCount, storeWords}
 use Rattle.tree_entries.specs.Trees.{has}
 use Rattle.pushes.specs.Records.{placesBelow, usedWords}
 use Rattle.pushes.specs.Listed.{listed, wholeRecords}
 use Rattle.push_entries.specs.Pushes.{fewRecords, pushing}
 
-unfoldable pub listedRefusals : ℕ → ParameterSet → List ℕ → List ℕ → List Refusal
-listedRefusals p s store ns =
-    setRefusals p s
-    ++ (refusal 10 (not (has store (storeWords p s) && (wholeRecords ns && fewRecords (listed ns))))
-    ∷ refusal 11 (not (placesBelow (leafCount p s) (listed ns)))
-    ∷ notWords p (usedWords (s .«node_size») (listed ns) ++ store) ∷ [])
+unfoldable pub listedRefusals : ParameterSet → List ℕ → List ℕ → List Refusal
+listedRefusals s store ns =
+    setRefusals s
+    ++ (refusal 10 (not (has store (storeWords s) && (wholeRecords ns && fewRecords (listed ns))))
+    ∷ refusal 11 (not (placesBelow (leafCount s) (listed ns)))
+    ∷ notWords (primeOf s) (usedWords (s .«node_size») (listed ns) ++ store) ∷ [])
 
-unfoldable pub listedReply : ℕ → ParameterSet → List ℕ → List ℕ → Reply
-listedReply p s store ns = reply (listedRefusals p s store ns) (pushing p s store (listed ns) .made ∷ [])
+unfoldable pub listedReply : ParameterSet → List ℕ → List ℕ → Reply
+listedReply s store ns = reply (listedRefusals s store ns) (pushing s store (listed ns) .made ∷ [])
 
-unfoldable pub listedPushed : ℕ → ParameterSet → List ℕ → List ℕ → List ℕ
-listedPushed p s store ns = after (listedReply p s store ns) store (pushing p s store (listed ns) .store)
+unfoldable pub listedPushed : ParameterSet → List ℕ → List ℕ → List ℕ
+listedPushed s store ns = after (listedReply s store ns) store (pushing s store (listed ns) .store)

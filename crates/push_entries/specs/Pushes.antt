@@ -6,7 +6,7 @@ use lib.Dec.{leb}
 use lib.ListN.{length}
 use Rattle.refusals.specs.Table.{Refusal, refusal, notWords, Reply, reply, after}
 use Rattle.parameters.specs.declared.ParameterSet.{ParameterSet}
-use Rattle.parameters.specs.ParameterSet.{setRefusals}
+use Rattle.parameters.specs.ParameterSet.{primeOf, setRefusals}
 use Rattle.merkle.specs.Replacement.{Counted, push}
 use Rattle.trees.specs.SetTrees.{treeOf, leafCount, storeWords}
 use Rattle.tree_entries.specs.Trees.{has}
@@ -18,19 +18,19 @@ abbrev pub fewRecords : List Record → Bool
 fewRecords rs = leb (length rs) (2 ^ 32)
 
 -- Refusal 12 tests every record's leaf and the whole store (Rules 5.5).
-unfoldable pub pushRefusals : ℕ → ParameterSet → List ℕ → List Record → List Refusal
-pushRefusals p s store rs =
-    setRefusals p s
-    ++ (refusal 10 (not (has store (storeWords p s) && fewRecords rs))
-    ∷ refusal 11 (not (placesBelow (leafCount p s) rs))
-    ∷ notWords p (usedWords (s .«node_size») rs ++ store) ∷ [])
+unfoldable pub pushRefusals : ParameterSet → List ℕ → List Record → List Refusal
+pushRefusals s store rs =
+    setRefusals s
+    ++ (refusal 10 (not (has store (storeWords s) && fewRecords rs))
+    ∷ refusal 11 (not (placesBelow (leafCount s) rs))
+    ∷ notWords (primeOf s) (usedWords (s .«node_size») rs ++ store) ∷ [])
 
 -- The replacements in the order of the records, under one count (Rules 5.4).
-abbrev pub pushing : ℕ → ParameterSet → List ℕ → List Record → Counted
-pushing p s store rs = push (treeOf p s) (s .height) (changesOf (s .«node_size») rs) store
+abbrev pub pushing : ParameterSet → List ℕ → List Record → Counted
+pushing s store rs = push (treeOf s) (s .height) (changesOf (s .«node_size») rs) store
 
-unfoldable pub pushReply : ℕ → ParameterSet → List ℕ → List Record → Reply
-pushReply p s store rs = reply (pushRefusals p s store rs) (pushing p s store rs .made ∷ [])
+unfoldable pub pushReply : ParameterSet → List ℕ → List Record → Reply
+pushReply s store rs = reply (pushRefusals s store rs) (pushing s store rs .made ∷ [])
 
-unfoldable pub pushed : ℕ → ParameterSet → List ℕ → List Record → List ℕ
-pushed p s store rs = after (pushReply p s store rs) store (pushing p s store rs .store)
+unfoldable pub pushed : ParameterSet → List ℕ → List Record → List ℕ
+pushed s store rs = after (pushReply s store rs) store (pushing s store rs .store)

@@ -3,7 +3,6 @@ use mathlib.Core.Path.{_≡_}
 use mathlib.Core.Bool.{true}
 use mathlib.Core.List.{List}
 use Prim.Native.Nat.{ℕ}
-use Rattle.modular.specs.Goldilocks.{p}
 use Rattle.parameters.specs.declared.ParameterSet.{ParameterSet}
 use Rattle.pushes.specs.declared.record.Record.{Record}
 use Rattle.pushes.specs.Records.{SixWords}
@@ -13,8 +12,8 @@ use Rattle.push_entries.specs.Listed.{listedReply, listedPushed}
 
 -- A list of whole records answers and leaves what `push` does with those records, and they have six words, as a record's type says.
 pub record SamePush (s : ParameterSet) (store numbers : List ℕ) : Type 0 where
-  pub answer : listedReply p s store numbers ≡ pushReply p s store (listed numbers)
-  pub left : listedPushed p s store numbers ≡ pushed p s store (listed numbers)
+  pub answer : listedReply s store numbers ≡ pushReply s store (listed numbers)
+  pub left : listedPushed s store numbers ≡ pushed s store (listed numbers)
   pub sixWords : SixWords (listed numbers)
 
 -- Every list of records is read from its own numbers, which are whole records: so no push is out of a list of numbers' reach.

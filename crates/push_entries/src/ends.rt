@@ -2,7 +2,6 @@
 ghost use mathlib.Core.Path.{_≡_};
 ghost use mathlib.Core.Bool.{true};
 ghost use mathlib.Core.List.{[], _∷_, _++_};
-ghost use Rattle.modular.specs.Goldilocks.{p};
 ghost use Rattle.refusals.specs.Table.{firstRefusal, refusal};
 ghost use Rattle.parameters.specs.ParameterSet.{setRefusals};
 ghost use Rattle.push_entries.specs.Ends.{beginOf, finishOf};
@@ -26,7 +25,7 @@ fn refused(number: u8) -> Tally
 
 // What a push begins with: the first of refusals 1 to 10 that applies, or the places and whether the store is words.
 pub fn begin(set: ParameterSet, store: &[u64], count: usize) -> Tally
-    ensures { λ r. ⌜ r ≡ beginOf p set (now (store .entry)) count ⌝ }
+    ensures { λ r. ⌜ r ≡ beginOf set (now (store .entry)) count ⌝ }
 {
     let number = state_entries::refusal_of(set);
     if number != 0 {
@@ -49,7 +48,7 @@ pub fn begin(set: ParameterSet, store: &[u64], count: usize) -> Tally
 
 // The number that refuses a list that is not of whole records: the set's, or else 10.
 pub fn refusal_of_part(set: ParameterSet) -> u8
-    ensures { λ r. ⌜ r ≡ firstRefusal (setRefusals p set ++ (refusal 10 true ∷ [])) ⌝ }
+    ensures { λ r. ⌜ r ≡ firstRefusal (setRefusals set ++ (refusal 10 true ∷ [])) ⌝ }
 {
     let number = state_entries::refusal_of(set);
     if number != 0 {

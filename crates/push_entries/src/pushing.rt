@@ -1,6 +1,5 @@
 // Pushes of a slice of records, and of records that are handed in as numbers, seven for each: for callers that have no such slice.
 ghost use mathlib.Core.Path.{_≡_};
-ghost use Rattle.modular.specs.Goldilocks.{p};
 ghost use Rattle.change_entries.specs.Replacement.{changedReply};
 ghost use Rattle.push_entries.specs.Pushes.{pushReply, pushed};
 ghost use Rattle.push_entries.specs.Listed.{listedReply, listedPushed};
@@ -12,8 +11,8 @@ use pushes::passes;
 
 // All records are tested, then all are written, in order; or none is.
 pub fn push(set: ParameterSet, store: &mut [u64], records: &[Record]) -> Changed
-    ensures { λ r. ⌜ (changedReply r ≡ pushReply p set (now (store .entry)) (now (records .entry)))
-        × (now (store .exit) ≡ pushed p set (now (store .entry)) (now (records .entry))) ⌝ }
+    ensures { λ r. ⌜ (changedReply r ≡ pushReply set (now (store .entry)) (now (records .entry)))
+        × (now (store .exit) ≡ pushed set (now (store .entry)) (now (records .entry))) ⌝ }
 {
     let begun = ends::begin(set, store, records.len());
     let tested = passes::each(set, store, records, passes::TEST, begun);
@@ -23,8 +22,8 @@ pub fn push(set: ParameterSet, store: &mut [u64], records: &[Record]) -> Changed
 
 // The same of the records of a list of numbers.
 pub fn push_listed(set: ParameterSet, store: &mut [u64], numbers: &[u64]) -> Changed
-    ensures { λ r. ⌜ (changedReply r ≡ listedReply p set (now (store .entry)) (now (numbers .entry)))
-        × (now (store .exit) ≡ listedPushed p set (now (store .entry)) (now (numbers .entry))) ⌝ }
+    ensures { λ r. ⌜ (changedReply r ≡ listedReply set (now (store .entry)) (now (numbers .entry)))
+        × (now (store .exit) ≡ listedPushed set (now (store .entry)) (now (numbers .entry))) ⌝ }
 {
     if numbers.len() % 7 != 0 {
         return Changed::Refused(ends::refusal_of_part(set));

@@ -8,12 +8,11 @@ use native.Mathlib.Omega.{arith}
 use lib.Dec.{eqb, ltb}
 use lib.ListN.{length}
 use borrow.Author.Tests.{eqb-true, ltb-true}
-use Rattle.modular.specs.Goldilocks.{p}
 use Rattle.modular.specs.Arithmetic.{allWords}
 use Rattle.modular.proofs.Words.{left-true, right-true}
 use Rattle.refusals.specs.Table.{firstRefusal}
 use Rattle.parameters.specs.declared.ParameterSet.{ParameterSet}
-use Rattle.parameters.specs.ParameterSet.{setRefusals}
+use Rattle.parameters.specs.ParameterSet.{primeOf, setRefusals}
 use Rattle.merkle.specs.Replacement.{Counted, replaceFrom}
 use Rattle.merkle.proofs.Replacement.{replace-made}
 use Rattle.trees.specs.Shapes.{counted}
@@ -25,7 +24,7 @@ use Rattle.pushes.specs.Records.{leafOf}
 use Rattle.pushes.specs.Passes.{Pass, pass, Going, testOf, mayWrite, wrote, writeOf, stepOf}
 
 -- a leaf is among a record's six words
-pub leaf-in-record : (s : ParameterSet) → firstRefusal (setRefusals p s) ≡ 0 → s .«node_size» ≤ 6
+pub leaf-in-record : (s : ParameterSet) → firstRefusal (setRefusals s) ≡ 0 → s .«node_size» ≤ 6
 leaf-in-record s none =
     omega (arith, mul-le-mul-right (s .«node_size») (tree-of.valid-numbers s none .several), tree-of.width-is s none, tree-of.width-fits s none)
 
@@ -51,7 +50,7 @@ pub record Follows (t t′ : Tally) : Type 0 where
 same : (t : Tally) → Follows t t
 same t = record { number = refl; places = refl; made = omega arith }
 
-test-follows : (s : ParameterSet) (r : Record) (t : Tally) → Follows t (testOf p s r t)
+test-follows : (s : ParameterSet) (r : Record) (t : Tally) → Follows t (testOf s r t)
 unfolding testOf
 test-follows s r t = go (eqb (t .number) 0) refl
   where
@@ -60,7 +59,7 @@ test-follows s r t = go (eqb (t .number) 0) refl
       number = 0;
       places = t .places;
       placed = t .placed && ltb (r .place) (t .places);
-      words = t .words && allWords p (leafOf (s .«node_size») r);
+      words = t .words && allWords (primeOf s) (leafOf (s .«node_size») r);
       made = t .made;
     }
 
@@ -68,32 +67,32 @@ test-follows s r t = go (eqb (t .number) 0) refl
     go true e = record { number = sym (eqb-true (t .number) 0 e); places = refl; made = omega arith }
     go false e = same t
 
-write-follows : (s : ParameterSet) (r : Record) (u : Pass) → (u .tally .number ≡ 0 → firstRefusal (setRefusals p s) ≡ 0) → Follows (u .tally) (writeOf p s r u .tally)
+write-follows : (s : ParameterSet) (r : Record) (u : Pass) → (u .tally .number ≡ 0 → firstRefusal (setRefusals s) ≡ 0) → Follows (u .tally) (writeOf s r u .tally)
 unfolding writeOf
 write-follows s r u accepted = go (mayWrite (u .tally) (r .place)) refl
   where
     done : Counted
-    done = replaceFrom (treeOf p s) (s .height) (r .place) (leafOf (s .«node_size») r) (counted (u .store) (u .tally .made))
+    done = replaceFrom (treeOf s) (s .height) (r .place) (leafOf (s .«node_size») r) (counted (u .store) (u .tally .made))
 
     go : (b : Bool) → mayWrite (u .tally) (r .place) ≡ b → Follows (u .tally) (cond b (wrote (u .tally) done) u .tally)
     go true e =
         let none = accepted (may-unrefused (u .tally) (r .place) e) in
         let counts : done .made ≡ u .tally .made + s .height =
-        replace-made (treeOf p s) (tree-of.shape-regular s none) (s .height) (r .place) (leafOf (s .«node_size») r) (counted (u .store) (u .tally .made)) in
+        replace-made (treeOf s) (tree-of.shape-regular s none) (s .height) (r .place) (leafOf (s .«node_size») r) (counted (u .store) (u .tally .made)) in
         record { number = refl; places = refl; made = omega (arith, counts, tree-of.valid-numbers s none .low) }
     go false e = same (u .tally)
 
-step-follows : (s : ParameterSet) (phase : ℕ) (r : Record) (u : Pass) → (u .tally .number ≡ 0 → firstRefusal (setRefusals p s) ≡ 0) → Follows (u .tally) (stepOf p s phase r u .tally)
+step-follows : (s : ParameterSet) (phase : ℕ) (r : Record) (u : Pass) → (u .tally .number ≡ 0 → firstRefusal (setRefusals s) ≡ 0) → Follows (u .tally) (stepOf s phase r u .tally)
 unfolding stepOf
 step-follows s phase r u accepted = go (eqb phase 0)
   where
-    go : (b : Bool) → Follows (u .tally) (cond b (pass (testOf p s r (u .tally)) (u .store)) (writeOf p s r u) .tally)
+    go : (b : Bool) → Follows (u .tally) (cond b (pass (testOf s r (u .tally)) (u .store)) (writeOf s r u) .tally)
     go true = test-follows s r (u .tally)
     go false = write-follows s r u accepted
 
 -- after a step a pass goes on, with a record less before it
 pub goes-on : (s : ParameterSet) (phase : ℕ) (r : Record) (u : Pass) (store : List ℕ) (n : ℕ) → length store ≡ length (u .store)
-    → Going p s (u .store) (u .tally) (suc n) → Going p s store (stepOf p s phase r u .tally) n
+    → Going s (u .store) (u .tally) (suc n) → Going s store (stepOf s phase r u .tally) n
 goes-on s phase r u store n e G =
     let F = step-follows s phase r u (G .accepted) in
     record {

@@ -9,7 +9,7 @@ use lib.ListN.{length}
 use Rattle.modular.specs.Arithmetic.{allWords}
 use Rattle.refusals.specs.Table.{firstRefusal}
 use Rattle.parameters.specs.declared.ParameterSet.{ParameterSet}
-use Rattle.parameters.specs.ParameterSet.{setRefusals}
+use Rattle.parameters.specs.ParameterSet.{primeOf, setRefusals}
 use Rattle.merkle.specs.Replacement.{Counted, replaceFrom}
 use Rattle.trees.specs.Shapes.{counted}
 use Rattle.trees.specs.SetTrees.{treeOf, leafCount, storeWords}
@@ -26,14 +26,14 @@ abbrev pub pass : Tally → List ℕ → Pass
 pass t store = record { tally = t; store = store }
 
 -- a record tested, where no refusal before 11 applies
-unfoldable pub testOf : ℕ → ParameterSet → Record → Tally → Tally
-testOf p s r t =
+unfoldable pub testOf : ParameterSet → Record → Tally → Tally
+testOf s r t =
     cond (eqb (t .number) 0)
     (record {
       number = 0;
       places = t .places;
       placed = t .placed && ltb (r .place) (t .places);
-      words = t .words && allWords p (leafOf (s .«node_size») r);
+      words = t .words && allWords (primeOf s) (leafOf (s .«node_size») r);
       made = t .made;
     })
     t
@@ -48,24 +48,24 @@ counting t n = record { number = t .number; places = t .places; placed = t .plac
 abbrev pub wrote : Tally → Counted → Pass
 wrote t c = pass (counting t (c .made)) (c .store)
 
-unfoldable pub writeOf : ℕ → ParameterSet → Record → Pass → Pass
-writeOf p s r u =
+unfoldable pub writeOf : ParameterSet → Record → Pass → Pass
+writeOf s r u =
     cond (mayWrite (u .tally) (r .place))
-    (wrote (u .tally) (replaceFrom (treeOf p s) (s .height) (r .place) (leafOf (s .«node_size») r) (counted (u .store) (u .tally .made))))
+    (wrote (u .tally) (replaceFrom (treeOf s) (s .height) (r .place) (leafOf (s .«node_size») r) (counted (u .store) (u .tally .made))))
     u
 
 -- phase 0 tests, any other writes
-unfoldable pub stepOf : ℕ → ParameterSet → ℕ → Record → Pass → Pass
-stepOf p s phase r u = cond (eqb phase 0) (pass (testOf p s r (u .tally)) (u .store)) (writeOf p s r u)
+unfoldable pub stepOf : ParameterSet → ℕ → Record → Pass → Pass
+stepOf s phase r u = cond (eqb phase 0) (pass (testOf s r (u .tally)) (u .store)) (writeOf s r u)
 
 -- the records in order
-unfoldable pub eachOf : ℕ → ParameterSet → ℕ → List Record → Pass → Pass
-eachOf p s phase [] u = u
-eachOf p s phase (r ∷ rs) u = eachOf p s phase rs (stepOf p s phase r u)
+unfoldable pub eachOf : ParameterSet → ℕ → List Record → Pass → Pass
+eachOf s phase [] u = u
+eachOf s phase (r ∷ rs) u = eachOf s phase rs (stepOf s phase r u)
 
 -- What a pass over n records presumes: the set is accepted and the store has its length, unless the tally has a refusal; the count has room.
-pub record Going (p : ℕ) (s : ParameterSet) (store : List ℕ) (t : Tally) (n : ℕ) : Type 0 where
-  pub accepted : t .number ≡ 0 → firstRefusal (setRefusals p s) ≡ 0
-  pub whole : t .number ≡ 0 → length store ≡ storeWords p s
-  pub places : t .number ≡ 0 → t .places ≡ leafCount p s
+pub record Going (s : ParameterSet) (store : List ℕ) (t : Tally) (n : ℕ) : Type 0 where
+  pub accepted : t .number ≡ 0 → firstRefusal (setRefusals s) ≡ 0
+  pub whole : t .number ≡ 0 → length store ≡ storeWords s
+  pub places : t .number ≡ 0 → t .places ≡ leafCount s
   pub counts : t .made + 32 * n < 2 ^ 64

@@ -2,7 +2,6 @@
 ghost use mathlib.Core.Path.{_≡_};
 ghost use Prim.Native.Nat.{_/_};
 ghost use lib.ListN.{length};
-ghost use Rattle.modular.specs.Goldilocks.{p};
 ghost use Rattle.pushes.specs.Listed.{listed};
 ghost use Rattle.pushes.specs.Passes.{pass, Going, eachOf};
 use crate::listing;
@@ -23,9 +22,9 @@ pub fn each(
     phase: u64,
     tally: Tally,
 ) -> Tally
-    requires { ⌜ Going p set (now store) tally (length (now records)) ⌝ }
-    ensures { λ r. ⌜ (r ≡ eachOf p set phase (now (records .entry)) (pass tally (now (store .entry))) .tally)
-        × (now (store .exit) ≡ eachOf p set phase (now (records .entry)) (pass tally (now (store .entry))) .store) ⌝ }
+    requires { ⌜ Going set (now store) tally (length (now records)) ⌝ }
+    ensures { λ r. ⌜ (r ≡ eachOf set phase (now (records .entry)) (pass tally (now (store .entry))) .tally)
+        × (now (store .exit) ≡ eachOf set phase (now (records .entry)) (pass tally (now (store .entry))) .store) ⌝ }
 {
     let mut i: usize = 0;
     let mut sum = tally;
@@ -44,9 +43,9 @@ pub fn each_listed(
     phase: u64,
     tally: Tally,
 ) -> Tally
-    requires { ⌜ Going p set (now store) tally (length (now numbers) / 7) ⌝ }
-    ensures { λ r. ⌜ (r ≡ eachOf p set phase (listed (now (numbers .entry))) (pass tally (now (store .entry))) .tally)
-        × (now (store .exit) ≡ eachOf p set phase (listed (now (numbers .entry))) (pass tally (now (store .entry))) .store) ⌝ }
+    requires { ⌜ Going set (now store) tally (length (now numbers) / 7) ⌝ }
+    ensures { λ r. ⌜ (r ≡ eachOf set phase (listed (now (numbers .entry))) (pass tally (now (store .entry))) .tally)
+        × (now (store .exit) ≡ eachOf set phase (listed (now (numbers .entry))) (pass tally (now (store .entry))) .store) ⌝ }
 {
     let count = numbers.len() / 7;
     let mut i: usize = 0;

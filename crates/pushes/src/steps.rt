@@ -4,8 +4,8 @@ ghost use mathlib.Core.Bool.{true, _&&_};
 ghost use Prim.Native.Nat.{_+_, _≤_, _<_, _^_};
 ghost use lib.ListN.{length, take};
 ghost use Rattle.modular.specs.Arithmetic.{allWords};
-ghost use Rattle.modular.specs.Goldilocks.{p};
 ghost use Rattle.refusals.specs.Table.{firstRefusal};
+ghost use Rattle.fields.specs.Prime.{prime};
 ghost use Rattle.parameters.specs.ParameterSet.{setRefusals};
 ghost use Rattle.merkle.specs.Replacement.{replaceFrom};
 ghost use Rattle.trees.specs.Shapes.{counted};
@@ -28,7 +28,7 @@ fn both(a: bool, b: bool) -> bool
 // Whether the first numbers of a record are words.
 fn leaf_is_words(words: [u64; 6], node_size: u64) -> bool
     requires { ⌜ «node_size» ≤ 6 ⌝ }
-    ensures { λ r. ⌜ r ≡ allWords p (take «node_size» words) ⌝ }
+    ensures { λ r. ⌜ r ≡ allWords prime (take «node_size» words) ⌝ }
 {
     let end = node_size as usize;
     parameters::all_words(&words[..end])
@@ -36,8 +36,8 @@ fn leaf_is_words(words: [u64; 6], node_size: u64) -> bool
 
 // The first pass: a record's place and leaf are tested.
 fn test_record(set: ParameterSet, tally: Tally, item: Record) -> Tally
-    requires { ⌜ (tally .number ≡ 0 → firstRefusal (setRefusals p set) ≡ 0) ⌝ }
-    ensures { λ r. ⌜ r ≡ testOf p set item tally ⌝ }
+    requires { ⌜ (tally .number ≡ 0 → firstRefusal (setRefusals set) ≡ 0) ⌝ }
+    ensures { λ r. ⌜ r ≡ testOf set item tally ⌝ }
 {
     if tally.number != 0 {
         return tally;
@@ -64,9 +64,9 @@ fn may_write(tally: Tally, place: u64) -> bool
 
 // The single replacement of a record: the count that is handed in goes on.
 fn write_record(set: ParameterSet, store: &mut [u64], place: u64, words: [u64; 6], made: u64) -> u64
-    requires { ⌜ (firstRefusal (setRefusals p set) ≡ 0) × (length (now store) ≡ storeWords p set) × (place < leafCount p set) × (made + 32 < 2 ^ 64) ⌝ }
-    ensures { λ r. ⌜ (r ≡ replaceFrom (treeOf p set) (set .height) place (take (set .«node_size») words) (counted (now (store .entry)) made) .made)
-        × (now (store .exit) ≡ replaceFrom (treeOf p set) (set .height) place (take (set .«node_size») words) (counted (now (store .entry)) made) .store) ⌝ }
+    requires { ⌜ (firstRefusal (setRefusals set) ≡ 0) × (length (now store) ≡ storeWords set) × (place < leafCount set) × (made + 32 < 2 ^ 64) ⌝ }
+    ensures { λ r. ⌜ (r ≡ replaceFrom (treeOf set) (set .height) place (take (set .«node_size») words) (counted (now (store .entry)) made) .made)
+        × (now (store .exit) ≡ replaceFrom (treeOf set) (set .height) place (take (set .«node_size») words) (counted (now (store .entry)) made) .store) ⌝ }
 {
     let d = sets::dimensions(set);
     let diagonal = set.diagonal;
@@ -85,9 +85,9 @@ fn write_record(set: ParameterSet, store: &mut [u64], place: u64, words: [u64; 6
 
 // What a pass does with a record: phase 0 tests, any other writes where nothing is refused.
 pub fn step(set: ParameterSet, store: &mut [u64], phase: u64, tally: Tally, item: Record) -> Tally
-    requires { ⌜ Going p set (now store) tally 1 ⌝ }
-    ensures { λ r. ⌜ (r ≡ stepOf p set phase item (pass tally (now (store .entry))) .tally)
-        × (now (store .exit) ≡ stepOf p set phase item (pass tally (now (store .entry))) .store) ⌝ }
+    requires { ⌜ Going set (now store) tally 1 ⌝ }
+    ensures { λ r. ⌜ (r ≡ stepOf set phase item (pass tally (now (store .entry))) .tally)
+        × (now (store .exit) ≡ stepOf set phase item (pass tally (now (store .entry))) .store) ⌝ }
 {
     if phase == 0 {
         return test_record(set, tally, item);

@@ -5,20 +5,20 @@ use Prim.Native.Nat.{ℕ}
 use lib.Dec.{ltb}
 use Rattle.refusals.specs.Table.{Refusal, refusal, notWords, Reply, reply, after}
 use Rattle.parameters.specs.declared.ParameterSet.{ParameterSet}
-use Rattle.parameters.specs.ParameterSet.{setRefusals}
+use Rattle.parameters.specs.ParameterSet.{primeOf, setRefusals}
 use Rattle.merkle.specs.Openings.{siblingsAt}
 use Rattle.trees.specs.SetTrees.{treeOf, openingWords, partWords}
 use Rattle.tree_entries.specs.Trees.{has}
 
-unfoldable pub copyRefusals : ℕ → ParameterSet → List ℕ → ℕ → List ℕ → List Refusal
-copyRefusals p s siblings j buffer =
-    setRefusals p s
-    ++ (refusal 10 (not (has siblings (openingWords p s) && has buffer (partWords p s)))
+unfoldable pub copyRefusals : ParameterSet → List ℕ → ℕ → List ℕ → List Refusal
+copyRefusals s siblings j buffer =
+    setRefusals s
+    ++ (refusal 10 (not (has siblings (openingWords s) && has buffer (partWords s)))
     ∷ refusal 11 (not (ltb j (s .height)))
-    ∷ notWords p (siblingsAt (treeOf p s) siblings j) ∷ [])
+    ∷ notWords (primeOf s) (siblingsAt (treeOf s) siblings j) ∷ [])
 
-unfoldable pub copyReply : ℕ → ParameterSet → List ℕ → ℕ → List ℕ → Reply
-copyReply p s siblings j buffer = reply (copyRefusals p s siblings j buffer) []
+unfoldable pub copyReply : ParameterSet → List ℕ → ℕ → List ℕ → Reply
+copyReply s siblings j buffer = reply (copyRefusals s siblings j buffer) []
 
-unfoldable pub copied : ℕ → ParameterSet → List ℕ → ℕ → List ℕ → List ℕ
-copied p s siblings j buffer = after (copyReply p s siblings j buffer) buffer (siblingsAt (treeOf p s) siblings j)
+unfoldable pub copied : ParameterSet → List ℕ → ℕ → List ℕ → List ℕ
+copied s siblings j buffer = after (copyReply s siblings j buffer) buffer (siblingsAt (treeOf s) siblings j)

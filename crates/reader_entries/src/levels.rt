@@ -5,7 +5,6 @@ ghost use mathlib.Core.List.{[]};
 ghost use Prim.Native.Nat.{_*_, _/_};
 ghost use lib.Dec.{ltb};
 ghost use lib.ListN.{length};
-ghost use Rattle.modular.specs.Goldilocks.{p};
 ghost use Rattle.refusals.specs.Table.{firstRefusal};
 ghost use Rattle.merkle.specs.Lists.{part};
 ghost use Rattle.reader_entries.specs.Readers.{readRefusals, readWords};
@@ -14,7 +13,7 @@ use trees::sets;
 
 // The number of the first refusal of a set, siblings and a level, or 0.
 pub fn refusal_of_read(set: ParameterSet, siblings: &[u64], level: u64) -> u8
-    ensures { λ r. ⌜ r ≡ firstRefusal (readRefusals p set (now (siblings .entry)) level) ⌝ }
+    ensures { λ r. ⌜ r ≡ firstRefusal (readRefusals set (now (siblings .entry)) level) ⌝ }
 {
     let number = state_entries::refusal_of(set);
     if number != 0 {
@@ -52,7 +51,7 @@ pub fn words_of_read<'a>(
     level: u64,
     number: u8,
 ) -> &'a [u64]
-    ensures { λ r. ⌜ (number ≡ firstRefusal (readRefusals p set (now (siblings .entry)) level) → now r ≡ readWords p set (now (siblings .entry)) level) ⌝ }
+    ensures { λ r. ⌜ (number ≡ firstRefusal (readRefusals set (now (siblings .entry)) level) → now r ≡ readWords set (now (siblings .entry)) level) ⌝ }
 {
     if number != 0 {
         return &siblings[0..0];

@@ -1,6 +1,5 @@
 // The opening reader, by thin functions over the covered ones of `levels`.
 ghost use mathlib.Core.Path.{_≡_};
-ghost use Rattle.modular.specs.Goldilocks.{p};
 ghost use Rattle.reader_entries.specs.Readers.{partReply, readReply, readWords};
 use crate::levels;
 use parameters::ParameterSet;
@@ -25,8 +24,8 @@ pub fn reader<'a>(siblings: &'a [u64]) -> OpeningReader<'a>
 
 // The part for one level.
 pub fn part_at<'a>(set: ParameterSet, reader: OpeningReader<'a>, level: u64) -> Part<'a>
-    ensures { λ r. ⌜ (partReply (r .number) (now (r .words)) ≡ readReply p set (now (reader .entry .siblings)) level)
-        × (now (r .words) ≡ readWords p set (now (reader .entry .siblings)) level) ⌝ }
+    ensures { λ r. ⌜ (partReply (r .number) (now (r .words)) ≡ readReply set (now (reader .entry .siblings)) level)
+        × (now (r .words) ≡ readWords set (now (reader .entry .siblings)) level) ⌝ }
 {
     let number = levels::refusal_of_read(set, reader.siblings, level);
     let words = levels::words_of_read(set, reader.siblings, level, number);
@@ -35,8 +34,8 @@ pub fn part_at<'a>(set: ParameterSet, reader: OpeningReader<'a>, level: u64) -> 
 
 // The part for one level of sibling words, by a reader.
 pub fn read_level<'a>(set: ParameterSet, siblings: &'a [u64], level: u64) -> Part<'a>
-    ensures { λ r. ⌜ (partReply (r .number) (now (r .words)) ≡ readReply p set (now (siblings .entry)) level)
-        × (now (r .words) ≡ readWords p set (now (siblings .entry)) level) ⌝ }
+    ensures { λ r. ⌜ (partReply (r .number) (now (r .words)) ≡ readReply set (now (siblings .entry)) level)
+        × (now (r .words) ≡ readWords set (now (siblings .entry)) level) ⌝ }
 {
     part_at(set, reader(siblings), level)
 }

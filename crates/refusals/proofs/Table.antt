@@ -130,3 +130,7 @@ pub done-equations : (refusals : List Refusal) (result old new : List ℕ) → N
 done-equations refusals result old new N z =
     let r : reply refusals result ≡ done result = reply-done refusals result N z in
     (sym r, written-after old new r)
+
+-- the same with what the buffer holds, which is what they say of it
+pub left-as : {A : Type 0} {xs ys zs : List ℕ} → A × (ys ≡ zs) → xs ≡ ys → A × (xs ≡ zs)
+left-as e f = (e .0, f ∙ e .1)

@@ -1,5 +1,5 @@
 -- A set and a state that are not refused.
-use mathlib.Core.Path.{_≡_, _∙_}
+use mathlib.Core.Path.{_≡_}
 use mathlib.Core.Bool.{not, true, _&&_}
 use mathlib.Core.List.{List}
 use Prim.Native.Nat.{ℕ, _+_, _*_, _/_, _≤_, _<_}
@@ -12,74 +12,71 @@ use Rattle.modular.proofs.Words.{left-true, right-true}
 use Rattle.refusals.specs.Table.{firstRefusal}
 use Rattle.refusals.proofs.Table.{Numbered}
 use Rattle.poseidon2.specs.Statements.{Width, Words, AcceptedDiagonal}
+use Rattle.fields.proofs.Prime.{positive}
 use Rattle.parameters.specs.declared.ParameterSet.{ParameterSet}
-use Rattle.parameters.specs.ParameterSet.{setRefusals}
+use Rattle.parameters.specs.ParameterSet.{primeOf, setRefusals}
 use Rattle.parameters.proofs.Accepted.{set-numbered}
 use Rattle.state_entries.specs.Permutation.{stateRefusals, compressRefusals}
 use Rattle.refusals.proofs.LengthsAndWords.{all-numbered, passed}
 use Rattle.parameters.proofs.AcceptedSets as sets
 
 -- What the core is handed.
-pub record Accepted (p : ℕ) (s : ParameterSet) (xs : List ℕ) : Type 0 where
-  pub set : firstRefusal (setRefusals p s) ≡ 0
+pub record Accepted (s : ParameterSet) (xs : List ℕ) : Type 0 where
+  pub set : firstRefusal (setRefusals s) ≡ 0
   pub width : Width (s .width)
   pub half-some : 1 ≤ s .«full_rounds» / 2
   pub half-few : s .«full_rounds» / 2 ≤ 6
   pub partial-few : s .«partial_rounds» ≤ 64
-  pub constants : Words p (take (s .width * (2 * (s .«full_rounds» / 2)) + s .«partial_rounds») (s .constants))
-  pub diagonal : length (s .diagonal) ≡ 12 → AcceptedDiagonal p (s .width) (take (s .width) (s .diagonal))
+  pub constants : Words (primeOf s) (take (s .width * (2 * (s .«full_rounds» / 2)) + s .«partial_rounds») (s .constants))
+  pub diagonal : length (s .diagonal) ≡ 12 → AcceptedDiagonal (primeOf s) (s .width) (take (s .width) (s .diagonal))
   pub long : length xs ≡ s .width
-  pub words : allWords p xs ≡ true
+  pub words : allWords (primeOf s) xs ≡ true
 
-pub state-numbered : (p : ℕ) (s : ParameterSet) (xs : List ℕ) → Numbered (stateRefusals p s xs)
+pub state-numbered : (s : ParameterSet) (xs : List ℕ) → Numbered (stateRefusals s xs)
 unfolding stateRefusals
-state-numbered p s xs = all-numbered p (setRefusals p s) (set-numbered p s) (not (eqb (length xs) (s .width))) xs
+state-numbered s xs = all-numbered (primeOf s) (setRefusals s) (set-numbered s) (not (eqb (length xs) (s .width))) xs
 
 -- the same where a set alone is accepted
-by-set : (p : ℕ) (s : ParameterSet) (xs : List ℕ) → 0 < p → firstRefusal (setRefusals p s) ≡ 0 → length xs ≡ s .width → allWords p xs ≡ true → Accepted p s xs
+by-set : (s : ParameterSet) (xs : List ℕ) → firstRefusal (setRefusals s) ≡ 0 → length xs ≡ s .width → allWords (primeOf s) xs ≡ true → Accepted s xs
 unfolding setRefusals
-by-set p s xs positive none long words =
-    let N = sets.numbers p _ _ _ _ _ _ _ positive none in
+by-set s xs none long words =
+    let N = sets.numbers (primeOf s) _ _ _ _ _ _ _ positive none in
     record {
       set = none;
       width = N .width;
-      half-some = sets.half-some p _ _ _ _ _ _ _ positive none;
-      half-few = sets.half-few p _ _ _ _ _ _ _ positive none;
+      half-some = sets.half-some (primeOf s) _ _ _ _ _ _ _ positive none;
+      half-few = sets.half-few (primeOf s) _ _ _ _ _ _ _ positive none;
       partial-few = N .rounds .fewPartial;
-      constants = sets.used-constants p _ _ _ _ _ _ _ positive none;
-      diagonal = λ e. sets.used-diagonal p _ _ _ _ _ _ _ positive none (omega (arith, sets.width-few p _ _ _ _ _ _ _ positive none));
+      constants = sets.used-constants (primeOf s) _ _ _ _ _ _ _ positive none;
+      diagonal = λ e. sets.used-diagonal (primeOf s) _ _ _ _ _ _ _ positive none (omega (arith, sets.width-few (primeOf s) _ _ _ _ _ _ _ positive none));
       long = long;
       words = words;
     }
 
-pub accepted : (p : ℕ) (s : ParameterSet) (xs : List ℕ) → 0 < p → firstRefusal (stateRefusals p s xs) ≡ 0 → Accepted p s xs
+pub accepted : (s : ParameterSet) (xs : List ℕ) → firstRefusal (stateRefusals s xs) ≡ 0 → Accepted s xs
 unfolding stateRefusals
-accepted p s xs positive z =
-    let P = passed p (setRefusals p s) (set-numbered p s) (not (eqb (length xs) (s .width))) xs z in
-    by-set p s xs positive (P .before) (eqb-true (length xs) (s .width) (not-false (eqb (length xs) (s .width)) (P .lengths))) (P .words)
+accepted s xs z =
+    let P = passed (primeOf s) (setRefusals s) (set-numbered s) (not (eqb (length xs) (s .width))) xs z in
+    by-set s xs (P .before) (eqb-true (length xs) (s .width) (not-false (eqb (length xs) (s .width)) (P .lengths))) (P .words)
 
 -- A set, a state and a node to be written.
-pub record AcceptedNode (p : ℕ) (s : ParameterSet) (xs node : List ℕ) : Type 0 where
-  pub state : Accepted p s xs
+pub record AcceptedNode (s : ParameterSet) (xs node : List ℕ) : Type 0 where
+  pub state : Accepted s xs
   pub node-fits : s .«node_size» ≤ s .width
   pub node-long : length node ≡ s .«node_size»
 
-pub compression-numbered : (p : ℕ) (s : ParameterSet) (xs node : List ℕ) → Numbered (compressRefusals p s xs node)
+pub compression-numbered : (s : ParameterSet) (xs node : List ℕ) → Numbered (compressRefusals s xs node)
 unfolding compressRefusals
-compression-numbered p s xs node = all-numbered p (setRefusals p s) (set-numbered p s) _ xs
+compression-numbered s xs node = all-numbered (primeOf s) (setRefusals s) (set-numbered s) _ xs
 
-pub accepted-compression : (p : ℕ) (s : ParameterSet) (xs node : List ℕ) → 0 < p → firstRefusal (compressRefusals p s xs node) ≡ 0 → AcceptedNode p s xs node
+pub accepted-compression : (s : ParameterSet) (xs node : List ℕ) → firstRefusal (compressRefusals s xs node) ≡ 0 → AcceptedNode s xs node
 unfolding compressRefusals
-accepted-compression p s xs node positive z =
-    let P = passed p (setRefusals p s) (set-numbered p s) (not (eqb (length xs) (s .width) && eqb (length node) (s .«node_size»))) xs z in
+accepted-compression s xs node z =
+    let P = passed (primeOf s) (setRefusals s) (set-numbered s) (not (eqb (length xs) (s .width) && eqb (length node) (s .«node_size»))) xs z in
     let both = not-false (eqb (length xs) (s .width) && eqb (length node) (s .«node_size»)) (P .lengths) in
-    let A = by-set p s xs positive (P .before) (eqb-true (length xs) (s .width) (left-true (eqb (length xs) (s .width)) (eqb (length node) (s .«node_size»)) both)) (P .words) in
+    let A = by-set s xs (P .before) (eqb-true (length xs) (s .width) (left-true (eqb (length xs) (s .width)) (eqb (length node) (s .«node_size»)) both)) (P .words) in
     record {
       state = A;
-      node-fits = sets.node-size-fits p s positive (P .before);
+      node-fits = sets.node-size-fits s (P .before);
       node-long = eqb-true (length node) (s .«node_size») (right-true (eqb (length xs) (s .width)) (eqb (length node) (s .«node_size»)) both);
     }
-
--- a reply's equations, with what the buffer holds for what they say of it
-pub left-as : {A : Type 0} {xs ys zs : List ℕ} → A × (ys ≡ zs) → xs ≡ ys → A × (xs ≡ zs)
-left-as e f = (e .0, f ∙ e .1)

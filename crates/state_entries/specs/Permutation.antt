@@ -6,7 +6,7 @@ use lib.Dec.{eqb}
 use lib.ListN.{length}
 use Rattle.refusals.specs.Table.{Refusal, refusal, notWords, Reply, refused, done, reply, after}
 use Rattle.parameters.specs.declared.ParameterSet.{ParameterSet}
-use Rattle.parameters.specs.ParameterSet.{setRefusals}
+use Rattle.parameters.specs.ParameterSet.{primeOf, setRefusals}
 use Rattle.poseidon2.specs.Rounds.{permute}
 use Rattle.poseidon2.specs.Inverse.{unpermute}
 use Rattle.poseidon2.specs.Compression.{compress}
@@ -19,37 +19,37 @@ outcomeReply Done = done []
 outcomeReply (Refused n) = refused n
 
 -- The permutation, its inverse and the compression under a set.
-unfoldable pub permuteUnder : ℕ → ParameterSet → List ℕ → List ℕ
-permuteUnder p s xs = permute p (s .«full_rounds» / 2) (s .«partial_rounds») (s .diagonal) (s .constants) xs
+unfoldable pub permuteUnder : ParameterSet → List ℕ → List ℕ
+permuteUnder s xs = permute (primeOf s) (s .«full_rounds» / 2) (s .«partial_rounds») (s .diagonal) (s .constants) xs
 
-unfoldable pub unpermuteUnder : ℕ → ParameterSet → List ℕ → List ℕ
-unpermuteUnder p s xs = unpermute p (s .«full_rounds» / 2) (s .«partial_rounds») (s .diagonal) (s .constants) xs
+unfoldable pub unpermuteUnder : ParameterSet → List ℕ → List ℕ
+unpermuteUnder s xs = unpermute (primeOf s) (s .«full_rounds» / 2) (s .«partial_rounds») (s .diagonal) (s .constants) xs
 
-unfoldable pub compressUnder : ℕ → ParameterSet → List ℕ → List ℕ
-compressUnder p s xs =
-    compress p (s .«node_size») (s .«full_rounds» / 2) (s .«partial_rounds») (s .diagonal) (s .constants) xs
+unfoldable pub compressUnder : ParameterSet → List ℕ → List ℕ
+compressUnder s xs =
+    compress (primeOf s) (s .«node_size») (s .«full_rounds» / 2) (s .«partial_rounds») (s .diagonal) (s .constants) xs
 
 -- The refusals of a state: the set's, 10 if it is not t numbers, and 12 (Rules 8.8).
-unfoldable pub stateRefusals : ℕ → ParameterSet → List ℕ → List Refusal
-stateRefusals p s xs = setRefusals p s ++ (refusal 10 (not (eqb (length xs) (s .width))) ∷ notWords p xs ∷ [])
+unfoldable pub stateRefusals : ParameterSet → List ℕ → List Refusal
+stateRefusals s xs = setRefusals s ++ (refusal 10 (not (eqb (length xs) (s .width))) ∷ notWords (primeOf s) xs ∷ [])
 
-unfoldable pub stateReply : ℕ → ParameterSet → List ℕ → Reply
-stateReply p s xs = reply (stateRefusals p s xs) []
+unfoldable pub stateReply : ParameterSet → List ℕ → Reply
+stateReply s xs = reply (stateRefusals s xs) []
 
 -- `permute` and `unpermute` work in place on a state.
-unfoldable pub permuted : ℕ → ParameterSet → List ℕ → List ℕ
-permuted p s xs = after (stateReply p s xs) xs (permuteUnder p s xs)
+unfoldable pub permuted : ParameterSet → List ℕ → List ℕ
+permuted s xs = after (stateReply s xs) xs (permuteUnder s xs)
 
-unfoldable pub unpermuted : ℕ → ParameterSet → List ℕ → List ℕ
-unpermuted p s xs = after (stateReply p s xs) xs (unpermuteUnder p s xs)
+unfoldable pub unpermuted : ParameterSet → List ℕ → List ℕ
+unpermuted s xs = after (stateReply s xs) xs (unpermuteUnder s xs)
 
 -- `compress` goes from a state of t numbers to a node of l.
-unfoldable pub compressRefusals : ℕ → ParameterSet → List ℕ → List ℕ → List Refusal
-compressRefusals p s xs node =
-    setRefusals p s ++ (refusal 10 (not (eqb (length xs) (s .width) && eqb (length node) (s .«node_size»))) ∷ notWords p xs ∷ [])
+unfoldable pub compressRefusals : ParameterSet → List ℕ → List ℕ → List Refusal
+compressRefusals s xs node =
+    setRefusals s ++ (refusal 10 (not (eqb (length xs) (s .width) && eqb (length node) (s .«node_size»))) ∷ notWords (primeOf s) xs ∷ [])
 
-unfoldable pub compressReply : ℕ → ParameterSet → List ℕ → List ℕ → Reply
-compressReply p s xs node = reply (compressRefusals p s xs node) []
+unfoldable pub compressReply : ParameterSet → List ℕ → List ℕ → Reply
+compressReply s xs node = reply (compressRefusals s xs node) []
 
-unfoldable pub compressed : ℕ → ParameterSet → List ℕ → List ℕ → List ℕ
-compressed p s xs node = after (compressReply p s xs node) node (compressUnder p s xs)
+unfoldable pub compressed : ParameterSet → List ℕ → List ℕ → List ℕ
+compressed s xs node = after (compressReply s xs node) node (compressUnder s xs)

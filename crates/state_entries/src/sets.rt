@@ -1,7 +1,7 @@
 // Parameter sets: validation, and the refusal of one that is handed in.
 ghost use mathlib.Core.Path.{_≡_};
-ghost use Rattle.modular.specs.Goldilocks.{p};
 ghost use Rattle.refusals.specs.Table.{firstRefusal};
+ghost use Rattle.fields.specs.Prime.{prime};
 ghost use Rattle.parameters.specs.ParameterSet.{validation, setRefusals};
 use parameters::ParameterSet;
 use parameters::Validation;
@@ -16,7 +16,7 @@ pub fn validate(
     diagonal: &[u64],
     constants: &[u64],
 ) -> Validation
-    ensures { λ r. ⌜ r ≡ validation p width «node_size» height «full_rounds» «partial_rounds» (now (diagonal .entry)) (now (constants .entry)) ⌝ }
+    ensures { λ r. ⌜ r ≡ validation prime width «node_size» height «full_rounds» «partial_rounds» (now (diagonal .entry)) (now (constants .entry)) ⌝ }
 {
     parameters::validate(
         width,
@@ -31,7 +31,7 @@ pub fn validate(
 
 // The number of the first refusal of a set that is handed in, or 0.
 pub fn refusal_of(set: ParameterSet) -> u8
-    ensures { λ r. ⌜ r ≡ firstRefusal (setRefusals p set) ⌝ }
+    ensures { λ r. ⌜ r ≡ firstRefusal (setRefusals set) ⌝ }
 {
     let diagonal = set.diagonal;
     let constants = set.constants;

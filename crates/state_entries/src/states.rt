@@ -1,6 +1,5 @@
 // The permutation, its inverse and the compression, under a set that is handed in.
 ghost use mathlib.Core.Path.{_≡_};
-ghost use Rattle.modular.specs.Goldilocks.{p};
 ghost use Rattle.refusals.specs.Table.{firstRefusal};
 ghost use Rattle.state_entries.specs.Permutation.{outcomeReply, stateRefusals, stateReply, permuted, unpermuted, compressRefusals, compressReply, compressed};
 use crate::outcome::Outcome;
@@ -9,7 +8,7 @@ use parameters::ParameterSet;
 
 // The number of the first refusal of a set and a state, or 0.
 fn refusal_of_state(set: ParameterSet, state: &[u64]) -> u8
-    ensures { λ r. ⌜ r ≡ firstRefusal (stateRefusals p set (now (state .entry))) ⌝ }
+    ensures { λ r. ⌜ r ≡ firstRefusal (stateRefusals set (now (state .entry))) ⌝ }
 {
     let number = sets::refusal_of(set);
     if number != 0 {
@@ -26,7 +25,7 @@ fn refusal_of_state(set: ParameterSet, state: &[u64]) -> u8
 
 // The permutation of a state of t numbers, in place.
 pub fn permute(set: ParameterSet, state: &mut [u64]) -> Outcome
-    ensures { λ r. ⌜ (outcomeReply r ≡ stateReply p set (now (state .entry))) × (now (state .exit) ≡ permuted p set (now (state .entry))) ⌝ }
+    ensures { λ r. ⌜ (outcomeReply r ≡ stateReply set (now (state .entry))) × (now (state .exit) ≡ permuted set (now (state .entry))) ⌝ }
 {
     let number = refusal_of_state(set, state);
     if number != 0 {
@@ -37,13 +36,13 @@ pub fn permute(set: ParameterSet, state: &mut [u64]) -> Outcome
     let partial_rounds = set.partial_rounds as usize;
     let diagonal = set.diagonal;
     let constants = set.constants;
-    permutation::permute(width, half, partial_rounds, &diagonal, &constants, state);
+    permutations::permute(width, half, partial_rounds, &diagonal, &constants, state);
     Outcome::Done
 }
 
 // The state whose permutation is given, in place.
 pub fn unpermute(set: ParameterSet, state: &mut [u64]) -> Outcome
-    ensures { λ r. ⌜ (outcomeReply r ≡ stateReply p set (now (state .entry))) × (now (state .exit) ≡ unpermuted p set (now (state .entry))) ⌝ }
+    ensures { λ r. ⌜ (outcomeReply r ≡ stateReply set (now (state .entry))) × (now (state .exit) ≡ unpermuted set (now (state .entry))) ⌝ }
 {
     let number = refusal_of_state(set, state);
     if number != 0 {
@@ -54,13 +53,13 @@ pub fn unpermute(set: ParameterSet, state: &mut [u64]) -> Outcome
     let partial_rounds = set.partial_rounds as usize;
     let diagonal = set.diagonal;
     let constants = set.constants;
-    inversion::unpermute(width, half, partial_rounds, &diagonal, &constants, state);
+    permutations::unpermute(width, half, partial_rounds, &diagonal, &constants, state);
     Outcome::Done
 }
 
 // The number of the first refusal of a set, a state and a node to be written, or 0.
 fn refusal_of_compression(set: ParameterSet, state: &[u64], node: &[u64]) -> u8
-    ensures { λ r. ⌜ r ≡ firstRefusal (compressRefusals p set (now (state .entry)) (now (node .entry))) ⌝ }
+    ensures { λ r. ⌜ r ≡ firstRefusal (compressRefusals set (now (state .entry)) (now (node .entry))) ⌝ }
 {
     let number = sets::refusal_of(set);
     if number != 0 {
@@ -80,8 +79,8 @@ fn refusal_of_compression(set: ParameterSet, state: &[u64], node: &[u64]) -> u8
 
 // The compression of a state of t numbers to a node of l.
 pub fn compress(set: ParameterSet, state: &[u64], node: &mut [u64]) -> Outcome
-    ensures { λ r. ⌜ (outcomeReply r ≡ compressReply p set (now (state .entry)) (now (node .entry)))
-        × (now (node .exit) ≡ compressed p set (now (state .entry)) (now (node .entry))) ⌝ }
+    ensures { λ r. ⌜ (outcomeReply r ≡ compressReply set (now (state .entry)) (now (node .entry)))
+        × (now (node .exit) ≡ compressed set (now (state .entry)) (now (node .entry))) ⌝ }
 {
     let number = refusal_of_compression(set, state, node);
     if number != 0 {
@@ -93,7 +92,7 @@ pub fn compress(set: ParameterSet, state: &[u64], node: &mut [u64]) -> Outcome
     let partial_rounds = set.partial_rounds as usize;
     let diagonal = set.diagonal;
     let constants = set.constants;
-    permutation::compress(
+    permutations::compress(
         width,
         node_size,
         half,

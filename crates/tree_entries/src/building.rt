@@ -1,6 +1,5 @@
 // Building and roots, under a set that is handed in.
 ghost use mathlib.Core.Path.{_≡_};
-ghost use Rattle.modular.specs.Goldilocks.{p};
 ghost use Rattle.refusals.specs.Table.{firstRefusal};
 ghost use Rattle.state_entries.specs.Permutation.{outcomeReply};
 ghost use Rattle.tree_entries.specs.Trees.{buildRefusals, buildReply, built, rootRefusals, rootReply, rooted, storelessRefusals, storelessReply, storelessRooted};
@@ -10,7 +9,7 @@ use trees::sets;
 
 // The number of the first refusal of a set, leaves and a store to be written, or 0.
 fn refusal_of_build(set: ParameterSet, leaves: &[u64], store: &[u64]) -> u8
-    ensures { λ r. ⌜ r ≡ firstRefusal (buildRefusals p set (now (leaves .entry)) (now (store .entry))) ⌝ }
+    ensures { λ r. ⌜ r ≡ firstRefusal (buildRefusals set (now (leaves .entry)) (now (store .entry))) ⌝ }
 {
     let number = state_entries::refusal_of(set);
     if number != 0 {
@@ -30,8 +29,8 @@ fn refusal_of_build(set: ParameterSet, leaves: &[u64], store: &[u64]) -> u8
 
 // The whole store of a list of leaves.
 pub fn build(set: ParameterSet, leaves: &[u64], store: &mut [u64]) -> Outcome
-    ensures { λ r. ⌜ (outcomeReply r ≡ buildReply p set (now (leaves .entry)) (now (store .entry)))
-        × (now (store .exit) ≡ built p set (now (leaves .entry)) (now (store .entry))) ⌝ }
+    ensures { λ r. ⌜ (outcomeReply r ≡ buildReply set (now (leaves .entry)) (now (store .entry)))
+        × (now (store .exit) ≡ built set (now (leaves .entry)) (now (store .entry))) ⌝ }
 {
     let number = refusal_of_build(set, leaves, store);
     if number != 0 {
@@ -46,7 +45,7 @@ pub fn build(set: ParameterSet, leaves: &[u64], store: &mut [u64]) -> Outcome
 
 // The number of the first refusal of a set, a store and a node to be written, or 0.
 fn refusal_of_root(set: ParameterSet, store: &[u64], node: &[u64]) -> u8
-    ensures { λ r. ⌜ r ≡ firstRefusal (rootRefusals p set (now (store .entry)) (now (node .entry))) ⌝ }
+    ensures { λ r. ⌜ r ≡ firstRefusal (rootRefusals set (now (store .entry)) (now (node .entry))) ⌝ }
 {
     let number = state_entries::refusal_of(set);
     if number != 0 {
@@ -66,8 +65,8 @@ fn refusal_of_root(set: ParameterSet, store: &[u64], node: &[u64]) -> u8
 
 // The root of a store: its last l words.
 pub fn root(set: ParameterSet, store: &[u64], node: &mut [u64]) -> Outcome
-    ensures { λ r. ⌜ (outcomeReply r ≡ rootReply p set (now (store .entry)) (now (node .entry)))
-        × (now (node .exit) ≡ rooted p set (now (store .entry)) (now (node .entry))) ⌝ }
+    ensures { λ r. ⌜ (outcomeReply r ≡ rootReply set (now (store .entry)) (now (node .entry)))
+        × (now (node .exit) ≡ rooted set (now (store .entry)) (now (node .entry))) ⌝ }
 {
     let number = refusal_of_root(set, store, node);
     if number != 0 {
@@ -80,7 +79,7 @@ pub fn root(set: ParameterSet, store: &[u64], node: &mut [u64]) -> Outcome
 
 // The number of the first refusal of a set, leaves and a node to be written, or 0.
 fn refusal_of_storeless(set: ParameterSet, leaves: &[u64], node: &[u64]) -> u8
-    ensures { λ r. ⌜ r ≡ firstRefusal (storelessRefusals p set (now (leaves .entry)) (now (node .entry))) ⌝ }
+    ensures { λ r. ⌜ r ≡ firstRefusal (storelessRefusals set (now (leaves .entry)) (now (node .entry))) ⌝ }
 {
     let number = state_entries::refusal_of(set);
     if number != 0 {
@@ -100,8 +99,8 @@ fn refusal_of_storeless(set: ParameterSet, leaves: &[u64], node: &[u64]) -> u8
 
 // The root of a list of leaves, without a store.
 pub fn storeless_root(set: ParameterSet, leaves: &[u64], node: &mut [u64]) -> Outcome
-    ensures { λ r. ⌜ (outcomeReply r ≡ storelessReply p set (now (leaves .entry)) (now (node .entry)))
-        × (now (node .exit) ≡ storelessRooted p set (now (leaves .entry)) (now (node .entry))) ⌝ }
+    ensures { λ r. ⌜ (outcomeReply r ≡ storelessReply set (now (leaves .entry)) (now (node .entry)))
+        × (now (node .exit) ≡ storelessRooted set (now (leaves .entry)) (now (node .entry))) ⌝ }
 {
     let number = refusal_of_storeless(set, leaves, node);
     if number != 0 {

@@ -1,8 +1,8 @@
 // Openings and their verification, under a set that is handed in.
 ghost use mathlib.Core.Path.{_≡_};
 ghost use mathlib.Core.List.{[], _∷_, _++_};
-ghost use Rattle.modular.specs.Goldilocks.{p};
 ghost use Rattle.refusals.specs.Table.{firstRefusal, notWords};
+ghost use Rattle.fields.specs.Prime.{prime};
 ghost use Rattle.state_entries.specs.Permutation.{outcomeReply};
 ghost use Rattle.tree_entries.specs.Trees.{openRefusals, openReply, opened, verdictReply, verifyRefusals, verifyReply};
 use crate::verdict::Verdict;
@@ -12,7 +12,7 @@ use trees::sets;
 
 // The number of the first refusal of a set, a store, a place and siblings to be written, or 0.
 fn refusal_of_open(set: ParameterSet, store: &[u64], place: u64, siblings: &[u64]) -> u8
-    ensures { λ r. ⌜ r ≡ firstRefusal (openRefusals p set (now (store .entry)) place (now (siblings .entry))) ⌝ }
+    ensures { λ r. ⌜ r ≡ firstRefusal (openRefusals set (now (store .entry)) place (now (siblings .entry))) ⌝ }
 {
     let number = state_entries::refusal_of(set);
     if number != 0 {
@@ -36,8 +36,8 @@ fn refusal_of_open(set: ParameterSet, store: &[u64], place: u64, siblings: &[u64
 
 // The opening of a place: its siblings at each level.
 pub fn open(set: ParameterSet, store: &[u64], place: u64, siblings: &mut [u64]) -> Outcome
-    ensures { λ r. ⌜ (outcomeReply r ≡ openReply p set (now (store .entry)) place (now (siblings .entry)))
-        × (now (siblings .exit) ≡ opened p set (now (store .entry)) place (now (siblings .entry))) ⌝ }
+    ensures { λ r. ⌜ (outcomeReply r ≡ openReply set (now (store .entry)) place (now (siblings .entry)))
+        × (now (siblings .exit) ≡ opened set (now (store .entry)) place (now (siblings .entry))) ⌝ }
 {
     let number = refusal_of_open(set, store, place, siblings);
     if number != 0 {
@@ -50,7 +50,7 @@ pub fn open(set: ParameterSet, store: &[u64], place: u64, siblings: &mut [u64]) 
 
 // 12 where a number of three lists is not a word, or 0.
 fn refusal_of_words(root: &[u64], leaf: &[u64], siblings: &[u64]) -> u8
-    ensures { λ r. ⌜ r ≡ firstRefusal (notWords p (now (root .entry) ++ (now (leaf .entry) ++ now (siblings .entry))) ∷ []) ⌝ }
+    ensures { λ r. ⌜ r ≡ firstRefusal (notWords prime (now (root .entry) ++ (now (leaf .entry) ++ now (siblings .entry))) ∷ []) ⌝ }
 {
     if !parameters::all_words(root) {
         return 12;
@@ -72,7 +72,7 @@ fn refusal_of_verify(
     leaf: &[u64],
     siblings: &[u64],
 ) -> u8
-    ensures { λ r. ⌜ r ≡ firstRefusal (verifyRefusals p set (now (root .entry)) place (now (leaf .entry)) (now (siblings .entry))) ⌝ }
+    ensures { λ r. ⌜ r ≡ firstRefusal (verifyRefusals set (now (root .entry)) place (now (leaf .entry)) (now (siblings .entry))) ⌝ }
 {
     let number = state_entries::refusal_of(set);
     if number != 0 {
@@ -101,7 +101,7 @@ pub fn verify(
     leaf: &[u64],
     siblings: &[u64],
 ) -> Verdict
-    ensures { λ r. ⌜ verdictReply r ≡ verifyReply p set (now (root .entry)) place (now (leaf .entry)) (now (siblings .entry)) ⌝ }
+    ensures { λ r. ⌜ verdictReply r ≡ verifyReply set (now (root .entry)) place (now (leaf .entry)) (now (siblings .entry)) ⌝ }
 {
     let number = refusal_of_verify(set, root, place, leaf, siblings);
     if number != 0 {

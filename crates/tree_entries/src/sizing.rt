@@ -1,6 +1,5 @@
 // How large the leaves, the store and an opening of a set's tree are.
 ghost use mathlib.Core.Path.{_≡_};
-ghost use Rattle.modular.specs.Goldilocks.{p};
 ghost use Rattle.tree_entries.specs.Trees.{sizingReply, sizesReply};
 use parameters::ParameterSet;
 use trees::sets;
@@ -19,7 +18,7 @@ pub enum Sizing {
 
 // The sizes of the tree of a set.
 pub fn sizes(set: ParameterSet) -> Sizing
-    ensures { λ r. ⌜ sizingReply r ≡ sizesReply p set ⌝ }
+    ensures { λ r. ⌜ sizingReply r ≡ sizesReply set ⌝ }
 {
     let number = state_entries::refusal_of(set);
     if number != 0 {

@@ -9,8 +9,9 @@ use native.Mathlib.Omega.{arith}
 use native.Mathlib.Decide.{decLt}
 use lib.ListN.{length, take, getD, List·getD-eq-default}
 use Rattle.modular.specs.Arithmetic.{allWords}
-use Rattle.modular.specs.Goldilocks.{p}
 use Rattle.modular.proofs.Words.{words-by, words-at}
+use Rattle.fields.proofs.Prime.{positive}
+use Rattle.parameters.proofs.AcceptedSets.{words-of}
 use Rattle.poseidon2.specs.Statements.{Width}
 use Rattle.poseidon2.proofs.Rounds.{sizes}
 use Rattle.merkle.specs.Levels.{Regular, KeepsWords}
@@ -19,20 +20,12 @@ use Rattle.merkle.proofs.Openings.{but-one}
 use Rattle.parameters.specs.Refusals.{constantCount}
 use Rattle.parameters.proofs.Accepted.{Numbers, width-fits}
 use Rattle.trees.specs.declared.Dimensions.{Dimensions}
-use Rattle.trees.specs.Shapes.{shapeOf, shape, dimensions, tree, ValidNumbers, ValidSet}
+use Rattle.trees.specs.Shapes.{primeOfTree, shapeOf, shape, dimensions, tree, ValidNumbers, ValidSet}
 
 width-some : {t : ℕ} → Width t → 4 ≤ t
 width-some (inl e) = omega (arith, e)
 width-some (inr (inl e)) = omega (arith, e)
 width-some (inr (inr e)) = omega (arith, e)
-
--- a list of words gives words at every index: beyond its end 0
-all-at : (xs : List ℕ) → allWords p xs ≡ true → (i : ℕ) → getD xs i 0 < p
-all-at xs e i = go (decLt i (length xs))
-  where
-    go : Dec (i < length xs) → getD xs i 0 < p
-    go (yes b) = words-at p xs i e b
-    go (no b) = rw (List·getD-eq-default xs 0 {n = i} (omega arith)) (lib.Dec.lit< tt)
 
 -- a width that is k × l: l is not 0, and twice l, and k, is at most twelve
 module _ (k l : ℕ) (w : Width (k * l)) where
@@ -103,20 +96,20 @@ module _ (t l h rf rp : ℕ) (N : Numbers t l h rf rp) where
       let e : 2 * (rf / 2) ≡ rf = omega (arith, N .rounds .even) in
       ap₂ (λ (a b : ℕ). a * b + rp) (whole-width t l (N .nodeSize .divides)) e
 
-  pub valid-set : (C : List ℕ) → allWords p (take (constantCount t rf rp) C) ≡ true → ValidSet (dimensions t l h rf rp) C
+  pub valid-set : (C : List ℕ) → allWords (primeOfTree (dimensions t l h rf rp)) (take (constantCount t rf rp) C) ≡ true → ValidSet (dimensions t l h rf rp) C
   valid-set C e =
       record {
         numbers = valid-numbers;
-        words = rw used (record { at = all-at (take (constantCount t rf rp) C) e });
+        words = rw used (words-of _ (take (constantCount t rf rp) C) positive e);
       }
 
 -- the numbers of a validated set
 module _ {d : Dimensions} (v : ValidNumbers d) where
   pub regular : (D C : List ℕ) → Regular (tree d D C)
-  regular D C = shape-regular (lib.Dec.lit< tt) (d .arity) (d .«node_size») (d .half) (d .«partial_rounds») D C (v .width) (v .several)
+  regular D C = shape-regular positive (d .arity) (d .«node_size») (d .half) (d .«partial_rounds») D C (v .width) (v .several)
 
-  pub keeps-words : (D C : List ℕ) → KeepsWords p (tree d D C)
-  keeps-words D C = shape-words (lib.Dec.lit< tt) (d .arity) (d .«node_size») (d .half) (d .«partial_rounds») D C (v .width) (v .several)
+  pub keeps-words : (D C : List ℕ) → KeepsWords (primeOfTree d) (tree d D C)
+  keeps-words D C = shape-words positive (d .arity) (d .«node_size») (d .half) (d .«partial_rounds») D C (v .width) (v .several)
 
   pub width-small : d .arity * d .«node_size» ≤ 12
   width-small = width-fits (d .arity * d .«node_size») (v .width)

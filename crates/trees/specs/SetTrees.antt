@@ -1,13 +1,14 @@
 -- The tree of a parameter set, and its sizes.
 use Prim.Native.Nat.{ℕ, _*_, _-_, _/_, _^_}
+use Rattle.parameters.specs.ParameterSet.{primeOf}
 use Rattle.parameters.specs.declared.ParameterSet.{ParameterSet}
 use Rattle.merkle.specs.Levels.{Shape, size}
 use Rattle.trees.specs.Shapes.{shape}
 use Rattle.trees.specs.declared.Dimensions.{Dimensions}
 
 -- The tree of a set: arity k = t / l, its rows compressed under the set (Rules 2.2, 4.1).
-abbrev pub treeOf : ℕ → ParameterSet → Shape
-treeOf p s = shape p (s .width) (s .«node_size») (s .«full_rounds» / 2) (s .«partial_rounds») (s .diagonal) (s .constants)
+abbrev pub treeOf : ParameterSet → Shape
+treeOf s = shape (primeOf s) (s .width) (s .«node_size») (s .«full_rounds» / 2) (s .«partial_rounds») (s .diagonal) (s .constants)
 
 -- The set's numbers as the tree's work uses them.
 abbrev pub dimensionsOf : ParameterSet → Dimensions
@@ -20,18 +21,18 @@ dimensionsOf s = record {
 }
 
 -- k^h leaves, and the words of the leaves, the store and an opening (Rules 4.2, 4.4, 4.7)
-abbrev pub leafCount : ℕ → ParameterSet → ℕ
-leafCount p s = treeOf p s .arity ^ s .height
+abbrev pub leafCount : ParameterSet → ℕ
+leafCount s = treeOf s .arity ^ s .height
 
-abbrev pub leafWords : ℕ → ParameterSet → ℕ
-leafWords p s = leafCount p s * s .«node_size»
+abbrev pub leafWords : ParameterSet → ℕ
+leafWords s = leafCount s * s .«node_size»
 
-abbrev pub storeWords : ℕ → ParameterSet → ℕ
-storeWords p s = size (treeOf p s) (s .height)
+abbrev pub storeWords : ParameterSet → ℕ
+storeWords s = size (treeOf s) (s .height)
 
-abbrev pub openingWords : ℕ → ParameterSet → ℕ
-openingWords p s = s .height * ((treeOf p s .arity - 1) * s .«node_size»)
+abbrev pub openingWords : ParameterSet → ℕ
+openingWords s = s .height * ((treeOf s .arity - 1) * s .«node_size»)
 
 -- the words of a level's part of an opening (Rules 4.7)
-abbrev pub partWords : ℕ → ParameterSet → ℕ
-partWords p s = (treeOf p s .arity - 1) * s .«node_size»
+abbrev pub partWords : ParameterSet → ℕ
+partWords s = (treeOf s .arity - 1) * s .«node_size»

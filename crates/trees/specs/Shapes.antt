@@ -2,7 +2,7 @@
 use mathlib.Core.List.{List}
 use Prim.Native.Nat.{ℕ, _+_, _*_, _/_, _^_, _≤_}
 use lib.ListN.{take}
-use Rattle.modular.specs.Goldilocks.{p}
+use Rattle.fields.specs.Prime.{prime}
 use Rattle.poseidon2.specs.Compression.{compress}
 use Rattle.poseidon2.specs.Statements.{Width, Words}
 use Rattle.merkle.specs.Levels.{Shape}
@@ -21,9 +21,13 @@ shape q t l half rp D C = shapeOf q (t / l) l half rp D C
 abbrev pub dimensions : ℕ → ℕ → ℕ → ℕ → ℕ → Dimensions
 dimensions t l h rf rp = record { arity = t / l; «node_size» = l; height = h; half = rf / 2; «partial_rounds» = rp }
 
--- the shape of such numbers, modulo p
+-- the prime of such numbers: today one for every tree
+abbrev pub primeOfTree : Dimensions → ℕ
+primeOfTree d = prime
+
+-- the shape of such numbers, modulo their prime
 abbrev pub tree : Dimensions → List ℕ → List ℕ → Shape
-tree d D C = shapeOf p (d .arity) (d .«node_size») (d .half) (d .«partial_rounds») D C
+tree d D C = shapeOf (primeOfTree d) (d .arity) (d .«node_size») (d .half) (d .«partial_rounds») D C
 
 -- What refusals 1 to 5 leave of a set's numbers (Rules 2.1): the width t = k × l, two nodes or more to a row, at most 32 levels above the
 -- leaves and at most 2^32 leaves, an even number of full rounds from 2 to 12, and at most 64 partial rounds.
@@ -39,7 +43,7 @@ pub record ValidNumbers (d : Dimensions) : Type 0 where
 -- And what refusal 7 leaves of its constants: the used ones are words.
 pub record ValidSet (d : Dimensions) (C : List ℕ) : Type 0 where
   pub numbers : ValidNumbers d
-  pub words : Words p (take (d .arity * d .«node_size» * (2 * d .half) + d .«partial_rounds») C)
+  pub words : Words (primeOfTree d) (take (d .arity * d .«node_size» * (2 * d .half) + d .«partial_rounds») C)
 
 -- a store and a count
 abbrev pub counted : List ℕ → ℕ → Counted

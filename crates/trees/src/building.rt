@@ -4,7 +4,7 @@ ghost use mathlib.Core.List.{List};
 ghost use Prim.Native.Nat.{ℕ, _+_, _*_, _-_, _^_, _≤_};
 ghost use lib.ListN.{length, drop};
 ghost use Rattle.modular.specs.Arithmetic.{allWords};
-ghost use Rattle.modular.specs.Goldilocks.{p};
+ghost use Rattle.fields.specs.Prime.{prime};
 ghost use Rattle.merkle.specs.Levels.{size, build, root};
 ghost use Rattle.trees.specs.Shapes.{tree, ValidNumbers, ValidSet};
 use crate::Dimensions;
@@ -45,7 +45,7 @@ pub fn copy_root(d: Dimensions, store: &[u64], node: &mut [u64])
 // Whether the last words of a store are words.
 pub fn ends_in_words(store: &[u64], count: usize) -> bool
     requires { ⌜ count ≤ length (now store) ⌝ }
-    ensures { λ r. ⌜ r ≡ allWords p (drop (length (now (store .entry)) - count) (now (store .entry))) ⌝ }
+    ensures { λ r. ⌜ r ≡ allWords prime (drop (length (now (store .entry)) - count) (now (store .entry))) ⌝ }
 {
     let at = store.len() - count;
     parameters::all_words(&store[at..])

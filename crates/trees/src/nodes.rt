@@ -42,7 +42,7 @@ pub fn compress_row(
     ensures { λ r. ⌜ take (d .«node_size») r ≡ tree d (now (diagonal .entry)) (now (constants .entry)) .compress (take (d .arity * d .«node_size») row) ⌝ }
 {
     let mut x = row;
-    permutation::compress_at(
+    permutations::compress_at(
         d.arity * d.node_size,
         d.node_size,
         d.half,
@@ -73,7 +73,7 @@ pub fn rewrite_node(
 {
     let node_size = d.node_size;
     let width = d.arity * node_size;
-    permutation::compress_at(
+    permutations::compress_at(
         width,
         node_size,
         d.half,

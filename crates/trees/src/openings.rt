@@ -4,11 +4,10 @@ ghost use mathlib.Core.List.{List};
 ghost use Prim.Native.Nat.{ℕ, _+_, _*_, _-_, _^_, _≤_, _<_};
 ghost use lib.ListN.{length};
 ghost use Rattle.modular.specs.Arithmetic.{allWords};
-ghost use Rattle.modular.specs.Goldilocks.{p};
 ghost use Rattle.merkle.specs.Levels.{size, row};
 ghost use Rattle.merkle.specs.Lists.{part, put};
 ghost use Rattle.merkle.specs.Openings.{without, opening};
-ghost use Rattle.trees.specs.Shapes.{tree, ValidNumbers};
+ghost use Rattle.trees.specs.Shapes.{primeOfTree, tree, ValidNumbers};
 use crate::Dimensions;
 use crate::nodes;
 use crate::sizes;
@@ -68,7 +67,7 @@ pub fn open(d: Dimensions, store: &[u64], place: usize, siblings: &mut [u64])
 // Whether row n of the store without its node c is words.
 fn siblings_are_words(d: Dimensions, store: &[u64], n: usize, c: usize) -> bool
     requires { ⌜ (ValidNumbers d) × (n * (d .arity * d .«node_size») + d .arity * d .«node_size» ≤ length (now store)) × (c < d .arity) ⌝ }
-    ensures { λ r. ⌜ ((D C : List ℕ) → r ≡ allWords p (without (tree d D C) c (row (tree d D C) n (now (store .entry))))) ⌝ }
+    ensures { λ r. ⌜ ((D C : List ℕ) → r ≡ allWords (primeOfTree d) (without (tree d D C) c (row (tree d D C) n (now (store .entry))))) ⌝ }
 {
     let node_size = d.node_size;
     let width = d.arity * node_size;
@@ -85,7 +84,7 @@ fn siblings_are_words(d: Dimensions, store: &[u64], n: usize, c: usize) -> bool
 // Whether the opening is words: it reads what `open` copies.
 pub fn opening_is_words(d: Dimensions, store: &[u64], place: usize) -> bool
     requires { ⌜ (ValidNumbers d) × ((D C : List ℕ) → length (now store) ≡ size (tree d D C) (d .height)) × (place < d .arity ^ d .height) ⌝ }
-    ensures { λ r. ⌜ ((D C : List ℕ) → r ≡ allWords p (opening (tree d D C) (d .height) place (now (store .entry)))) ⌝ }
+    ensures { λ r. ⌜ ((D C : List ℕ) → r ≡ allWords (primeOfTree d) (opening (tree d D C) (d .height) place (now (store .entry)))) ⌝ }
 {
     let arity = d.arity;
     let height = d.height;

@@ -2,7 +2,6 @@
 ghost use mathlib.Core.Path.{_≡_};
 ghost use Prim.Native.Nat.{_<_};
 ghost use lib.ListN.{length};
-ghost use Rattle.modular.specs.Goldilocks.{p};
 ghost use Rattle.refusals.specs.Table.{firstRefusal};
 ghost use Rattle.parameters.specs.ParameterSet.{setRefusals};
 ghost use Rattle.merkle.specs.Openings.{siblingsAt};
@@ -14,7 +13,7 @@ use parameters::ParameterSet;
 
 // The set's numbers as the tree's work uses them.
 pub fn dimensions(set: ParameterSet) -> Dimensions
-    requires { ⌜ firstRefusal (setRefusals p set) ≡ 0 ⌝ }
+    requires { ⌜ firstRefusal (setRefusals set) ≡ 0 ⌝ }
     ensures { λ r. ⌜ r ≡ dimensionsOf set ⌝ }
 {
     Dimensions {
@@ -28,39 +27,39 @@ pub fn dimensions(set: ParameterSet) -> Dimensions
 
 // The places of the tree: k^h.
 pub fn places(set: ParameterSet) -> usize
-    requires { ⌜ firstRefusal (setRefusals p set) ≡ 0 ⌝ }
-    ensures { λ r. ⌜ r ≡ leafCount p set ⌝ }
+    requires { ⌜ firstRefusal (setRefusals set) ≡ 0 ⌝ }
+    ensures { λ r. ⌜ r ≡ leafCount set ⌝ }
 {
     let d = dimensions(set);
     sizes::leaf_count(d.arity, d.height)
 }
 
 pub fn leaf_words(set: ParameterSet) -> usize
-    requires { ⌜ firstRefusal (setRefusals p set) ≡ 0 ⌝ }
-    ensures { λ r. ⌜ r ≡ leafWords p set ⌝ }
+    requires { ⌜ firstRefusal (setRefusals set) ≡ 0 ⌝ }
+    ensures { λ r. ⌜ r ≡ leafWords set ⌝ }
 {
     places(set) * set.node_size as usize
 }
 
 pub fn store_words(set: ParameterSet) -> usize
-    requires { ⌜ firstRefusal (setRefusals p set) ≡ 0 ⌝ }
-    ensures { λ r. ⌜ r ≡ storeWords p set ⌝ }
+    requires { ⌜ firstRefusal (setRefusals set) ≡ 0 ⌝ }
+    ensures { λ r. ⌜ r ≡ storeWords set ⌝ }
 {
     let d = dimensions(set);
     sizes::store_size(d)
 }
 
 pub fn opening_words(set: ParameterSet) -> usize
-    requires { ⌜ firstRefusal (setRefusals p set) ≡ 0 ⌝ }
-    ensures { λ r. ⌜ r ≡ openingWords p set ⌝ }
+    requires { ⌜ firstRefusal (setRefusals set) ≡ 0 ⌝ }
+    ensures { λ r. ⌜ r ≡ openingWords set ⌝ }
 {
     let d = dimensions(set);
     sizes::opening_size(d.arity, d.node_size, d.height)
 }
 
 pub fn part_words(set: ParameterSet) -> usize
-    requires { ⌜ firstRefusal (setRefusals p set) ≡ 0 ⌝ }
-    ensures { λ r. ⌜ r ≡ partWords p set ⌝ }
+    requires { ⌜ firstRefusal (setRefusals set) ≡ 0 ⌝ }
+    ensures { λ r. ⌜ r ≡ partWords set ⌝ }
 {
     let d = dimensions(set);
     sizes::part_size(d.arity, d.node_size)
@@ -68,8 +67,8 @@ pub fn part_words(set: ParameterSet) -> usize
 
 // The part of one level of an opening.
 pub fn level_words<'a>(set: ParameterSet, siblings: &'a [u64], level: u64) -> &'a [u64]
-    requires { ⌜ (firstRefusal (setRefusals p set) ≡ 0) × (length (now siblings) ≡ openingWords p set) × (level < set .height) ⌝ }
-    ensures { λ r. ⌜ now r ≡ siblingsAt (treeOf p set) (now (siblings .entry)) level ⌝ }
+    requires { ⌜ (firstRefusal (setRefusals set) ≡ 0) × (length (now siblings) ≡ openingWords set) × (level < set .height) ⌝ }
+    ensures { λ r. ⌜ now r ≡ siblingsAt (treeOf set) (now (siblings .entry)) level ⌝ }
 {
     let d = dimensions(set);
     let size = sizes::part_size(d.arity, d.node_size);

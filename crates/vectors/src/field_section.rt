@@ -1,5 +1,4 @@
 // The section `field`: an entry is named by its index, 0 for sum to 5 for seventh_root.
-use field::P;
 use harness::generator;
 use harness::output;
 use opening_tree::Answer;
@@ -9,16 +8,24 @@ const SEEDED_LINES: u64 = 2000;
 // the high 32 bits
 const HIGH_HALF: u64 = 18446744069414584320;
 
-const EDGES: [u64; 8] = [
-    0,
-    1,
-    4294967295,
-    4294967296,
-    4294967297,
-    18446744069414584320,
-    18446744069414584321,
-    18446744073709551615,
-];
+// The last word.
+fn last() -> u64 {
+    fields::order() - 1
+}
+
+// The numbers at the edges of halves, of the words and of 64 bits.
+fn edge(i: u64) -> u64 {
+    match i {
+        0 => 0,
+        1 => 1,
+        2 => 4294967295,
+        3 => 4294967296,
+        4 => 4294967297,
+        5 => last(),
+        6 => fields::order(),
+        _ => 18446744073709551615,
+    }
+}
 
 fn name(entry: u64) {
     match entry {
@@ -78,32 +85,32 @@ fn answer_line(entry: u64, a: u64, b: u64) {
 }
 
 fn worked() {
-    case_line(2, P - 1, P - 1);
+    case_line(2, last(), last());
     case_line(2, 4294967296, 4294967296);
     case_line(2, 281474976710656, 281474976710656);
     case_line(1, 0, 1);
     case_line(4, 2, 0);
     case_line(5, 128, 0);
-    case_line(0, P, 0);
-    case_line(0, P - 1, 0);
+    case_line(0, fields::order(), 0);
+    case_line(0, last(), 0);
     case_line(3, 0, 0);
 }
 
 fn edges_after(entry: u64, a: u64) {
     for j in 0..8 {
-        case_line(entry, a, EDGES[j]);
+        case_line(entry, a, edge(j));
     }
 }
 
 fn edges_of_two(entry: u64) {
     for i in 0..8 {
-        edges_after(entry, EDGES[i]);
+        edges_after(entry, edge(i));
     }
 }
 
 fn edges_of_one(entry: u64) {
     for i in 0..8 {
-        case_line(entry, EDGES[i], 0);
+        case_line(entry, edge(i), 0);
     }
 }
 

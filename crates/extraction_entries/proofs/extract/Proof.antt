@@ -1,7 +1,6 @@
 use mathlib.Core.Path.{_≡_, sym, _∙_}
 use Prim.Native.Nat.{_<_}
 use borrow.Author.Needs.{needs}
-use Rattle.modular.specs.Goldilocks.{p}
 use Rattle.refusals.specs.Table.{firstRefusal}
 use Rattle.merkle.specs.Lists.{lowest}
 use Rattle.merkle.specs.Extraction.{collideAt}
@@ -36,7 +35,7 @@ two s =
 abbrev start : tie.Else1 → tie.Start
 start c = c .before .before .before .before .before .before .before .before .before .before .before
 
-none : (c : tie.Else1) → let s = start c in firstRefusal (extractRefusals p (s .args .set) (two s) (s .args .first-row .now) (s .args .second-row .now)) ≡ 0
+none : (c : tie.Else1) → let s = start c in firstRefusal (extractRefusals (s .args .set) (two s) (s .args .first-row .now) (s .args .second-row .now)) ≡ 0
 none c = sym (c .before .refusal-of-extract .ensures) ∙ c .if1 .left
 
 passed : (c : tie.Else1) → let s = start c in Paired (s .args .set) (two s) (s .args .first-row .now) (s .args .second-row .now)
@@ -57,7 +56,7 @@ sized j = j .before .before .before .before .before
 -- the level that was found is the lowest at which the rows collide
 level : (j : tie.After-lowest-level)
     → let s = start (sized j .before) in let t = two s in let h = s .args .set .height in
-    j .lowest-level .result ≡ levelOr h (lowest (collideAt (treeOf p (s .args .set)) (t .place) (t .firstLeaf) (t .firstSiblings) (t .secondLeaf) (t .secondSiblings)) h)
+    j .lowest-level .result ≡ levelOr h (lowest (collideAt (treeOf (s .args .set)) (t .place) (t .firstLeaf) (t .firstSiblings) (t .secondLeaf) (t .secondSiblings)) h)
 level j = rw (sized j .dimensions .ensures) at (j .lowest-level .ensures)
 
 below : (j : tie.After-lowest-level) → j .lowest-level .result < start (sized j .before) .args .set .height

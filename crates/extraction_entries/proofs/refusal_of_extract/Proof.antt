@@ -2,7 +2,6 @@ use mathlib.Core.Path.{_≡_, sym, _∙_}
 use mathlib.Core.Bool.{true, not}
 use mathlib.Core.List.{[], _∷_}
 use borrow.Author.Needs.{needs}
-use Rattle.modular.specs.Goldilocks.{p}
 use Rattle.refusals.specs.Table.{refusal, firstRefusal}
 use Rattle.refusals.proofs.Table.{front-answers}
 use Rattle.extraction_entries.specs.Extraction.{Pair, pair, pairRefusals, extractRefusals}
@@ -27,7 +26,7 @@ two s =
 abbrev start : tie.Else1 → tie.Start
 start c = c .before .before .before .before .before .before .before .before .before
 
-none : (c : tie.Else1) → let s = start c in firstRefusal (pairRefusals p (s .args .set) (two s) (s .args .first-row .now) (s .args .second-row .now)) ≡ 0
+none : (c : tie.Else1) → let s = start c in firstRefusal (pairRefusals (s .args .set) (two s) (s .args .first-row .now) (s .args .second-row .now)) ≡ 0
 none c = sym (c .before .refusal-of-pair .ensures) ∙ c .if1 .left
 
 refusal-of-opening-requires : tie.Need-refusal-of-opening-requires

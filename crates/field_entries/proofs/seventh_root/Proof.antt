@@ -4,7 +4,7 @@ use Prim.Native.Nat.{ℕ}
 use native.Mathlib.Omega.{arith}
 use borrow.Author.Needs.{needs}
 use Rattle.modular.specs.Arithmetic.{seventhRoot}
-use Rattle.modular.specs.Goldilocks.{p}
+use Rattle.fields.specs.Prime.{prime}
 use Rattle.refusals.specs.Table.{done}
 use Rattle.refusals.proofs.Table.{all-passed}
 use Rattle.field_entries.specs.Arithmetic.{replyOf, seventhRootReply}
@@ -15,8 +15,8 @@ use Rattle.field_entries.proofs.seventh_root.Tie as tie
 returns : tie.Need-returns
 unfolding replyOf seventhRootReply
 returns c =
-    let a = c .before .args in
-    sym (operand-refused p (a .y) [] (seventhRoot p (a .y) ∷ []) (c .if1 .taken))
+    let a = c .before .before .args in
+    sym (operand-refused prime (a .y) [] (seventhRoot prime (a .y) ∷ []) (rw (c .before .order .ensures) at (c .if1 .taken)))
 
 seventh-root-requires : tie.Need-seventh-root-requires
 seventh-root-requires c κs = search needs
@@ -24,9 +24,9 @@ seventh-root-requires c κs = search needs
 returns-2 : tie.Need-returns-2
 unfolding replyOf seventhRootReply
 returns-2 c =
-    let a = c .before .before .args in
+    let a = c .before .before .before .args in
     ap (λ (x : ℕ). done (x ∷ [])) (c .seventh-root .ensures)
-    ∙ sym (operand-passed p (a .y) [] (seventhRoot p (a .y) ∷ []) (omega arith) ∙ all-passed (seventhRoot p (a .y) ∷ []))
+    ∙ sym (operand-passed prime (a .y) [] (seventhRoot prime (a .y) ∷ []) (omega arith) ∙ all-passed (seventhRoot prime (a .y) ∷ []))
 
 pub seventh-root-spec : {M : Type 1} → statement M
-seventh-root-spec = tie.close (tie.spec returns seventh-root-requires returns-2)
+seventh-root-spec = tie.close (tie.spec (λ c κs. search needs) returns seventh-root-requires returns-2)

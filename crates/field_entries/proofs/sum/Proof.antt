@@ -4,7 +4,7 @@ use Prim.Native.Nat.{ℕ}
 use native.Mathlib.Omega.{arith}
 use borrow.Author.Needs.{needs}
 use Rattle.modular.specs.Arithmetic.{add}
-use Rattle.modular.specs.Goldilocks.{p}
+use Rattle.fields.specs.Prime.{prime}
 use Rattle.refusals.specs.Table.{done}
 use Rattle.refusals.proofs.Table.{all-passed}
 use Rattle.field_entries.specs.Arithmetic.{replyOf, sumReply}
@@ -15,14 +15,14 @@ use Rattle.field_entries.proofs.sum.Tie as tie
 returns : tie.Need-returns
 unfolding replyOf sumReply
 returns c =
-    let a = c .before .args in
-    sym (first-refused p (a .a) (a .b) [] (add p (a .a) (a .b) ∷ []) (c .if1 .taken))
+    let a = c .before .before .args in
+    sym (first-refused prime (a .a) (a .b) [] (add prime (a .a) (a .b) ∷ []) (rw (c .before .order .ensures) at (c .if1 .taken)))
 
 returns-2 : tie.Need-returns-2
 unfolding replyOf sumReply
 returns-2 c =
-    let a = c .before .before .args in
-    sym (second-refused p (a .a) (a .b) [] (add p (a .a) (a .b) ∷ []) (omega arith) (c .if2 .taken))
+    let a = c .before .before .before .args in
+    sym (second-refused prime (a .a) (a .b) [] (add prime (a .a) (a .b) ∷ []) (omega arith) (rw (c .before .before .order .ensures) at (c .if2 .taken)))
 
 sum-requires : tie.Need-sum-requires
 sum-requires c κs = search needs
@@ -30,9 +30,9 @@ sum-requires c κs = search needs
 returns-3 : tie.Need-returns-3
 unfolding replyOf sumReply
 returns-3 c =
-    let a = c .before .before .before .args in
+    let a = c .before .before .before .before .args in
     ap (λ (x : ℕ). done (x ∷ [])) (c .sum .ensures)
-    ∙ sym (both-passed p (a .a) (a .b) [] (add p (a .a) (a .b) ∷ []) (omega arith) (omega arith) ∙ all-passed (add p (a .a) (a .b) ∷ []))
+    ∙ sym (both-passed prime (a .a) (a .b) [] (add prime (a .a) (a .b) ∷ []) (omega arith) (omega arith) ∙ all-passed (add prime (a .a) (a .b) ∷ []))
 
 pub sum-spec : {M : Type 1} → statement M
-sum-spec = tie.close (tie.spec returns returns-2 sum-requires returns-3)
+sum-spec = tie.close (tie.spec (λ c κs. search needs) returns returns-2 sum-requires returns-3)

@@ -4,7 +4,7 @@ use mathlib.Core.List.{List}
 use Prim.Native.Nat.{ℕ, _+_, _*_, _-_, _≤_}
 use native.Mathlib.Omega.{arith}
 use lib.ListN.{length, drop}
-use Rattle.modular.specs.Goldilocks.{p}
+use Rattle.fields.specs.Prime.{prime}
 use Rattle.poseidon2.specs.Inverse.{subLists, seventhRoots}
 use Rattle.poseidon2.specs.Statements.{Width, State}
 use Rattle.inversion.proofs.Words.{unexternal-step, unfullRounds-state}
@@ -13,7 +13,7 @@ use Rattle.inversion.proofs.unfull_rounds.Statement.{statement}
 use Rattle.inversion.proofs.unfull_rounds.Tie as tie
 
 abbrev Inv-loop : tie.InvT-loop
-Inv-loop rounds constants at state₀ i₀ state i = (i ≤ rounds) × (state ≡ fullFrom (length state₀) constants at rounds state₀ i) × State p (length state₀) state
+Inv-loop rounds constants at state₀ i₀ state i = (i ≤ rounds) × (state ≡ fullFrom (length state₀) constants at rounds state₀ i) × State prime (length state₀) state
 
 abbrev μ-loop : tie.MeasureT-loop
 μ-loop rounds constants at state₀ i₀ state i = i
@@ -66,9 +66,9 @@ loop-again c =
     let i = l .loop .i in
     let v = unexternal-step (s .pre .0) (l .loop .inv .2) (u .unexternal .ensures) in
     let q : r .unraise .last .1 .1 .0 ≡ fullFrom (length xs) C at (s .args .rounds) xs (i - 1) =
-    r .unraise .ensures ∙ ap₂ (λ (ys : List ℕ) (m : ℕ). subLists p (seventhRoots p ys) (drop (at + m * (i - 1)) C)) (u .unexternal .ensures) (v .width)
+    r .unraise .ensures ∙ ap₂ (λ (ys : List ℕ) (m : ℕ). subLists prime (seventhRoots prime ys) (drop (at + m * (i - 1)) C)) (u .unexternal .ensures) (v .width)
     ∙ full-more (length xs) C at (s .args .rounds) xs i (l .loop .state) (s .pre .0) (u .before .before .loop-test .taken) (l .loop .inv .0) (l .loop .inv .2) (l .loop .inv .1) in
-    (omega arith, q, subst (State p (length xs)) (sym q) (unfullRounds-state _ _ xs (s .pre .0) (record { width = refl; words = s .pre .1 })))
+    (omega arith, q, subst (State prime (length xs)) (sym q) (unfullRounds-state _ _ xs (s .pre .0) (record { width = refl; words = s .pre .1 })))
 
 same-length : tie.Need-same-length Inv-loop μ-loop
 same-length c = c .before .loop .inv .2 .width

@@ -5,7 +5,7 @@ use Prim.Native.Nat.{ℕ, _+_, _-_, _≤_}
 use native.Mathlib.Omega.{arith}
 use lib.ListN.{length, getD, take, set}
 use Rattle.modular.specs.Arithmetic.{sub, seventhRoot}
-use Rattle.modular.specs.Goldilocks.{p}
+use Rattle.fields.specs.Prime.{prime}
 use Rattle.poseidon2.specs.Statements.{State}
 use Rattle.inversion.specs.Kept.{uninternalBy}
 use Rattle.inversion.proofs.Words.{root-word, unpartialRoundsBy-state}
@@ -14,7 +14,7 @@ use Rattle.inversion.proofs.unpartial_rounds.Statement.{statement}
 use Rattle.inversion.proofs.unpartial_rounds.Tie as tie
 
 abbrev Inv-loop : tie.InvT-loop
-Inv-loop rounds inverses total-inverse constants at state₀ i₀ state i = (i ≤ rounds) × (state ≡ partialFrom (take (length state₀) inverses) total-inverse constants at rounds state₀ i) × State p (length state₀) state
+Inv-loop rounds inverses total-inverse constants at state₀ i₀ state i = (i ≤ rounds) × (state ≡ partialFrom (take (length state₀) inverses) total-inverse constants at rounds state₀ i) × State prime (length state₀) state
 
 abbrev μ-loop : tie.MeasureT-loop
 μ-loop rounds inverses total-inverse constants at state₀ i₀ state i = i
@@ -72,12 +72,12 @@ loop-again c =
     let C = s .args .constants .now in
     let at = s .args .at in
     let i = l .loop .i in
-    let d : c .difference .result ≡ sub p (seventhRoot p (getD (uninternalBy p es k (l .loop .state)) 0 0)) (getD C (at + (i - 1)) 0) =
-    c .difference .ensures ∙ ap (λ (n : ℕ). sub p n (getD C (at + (i - 1)) 0)) (c .before .before .seventh-root .ensures ∙ ap (λ (ys : List ℕ). seventhRoot p (getD ys 0 0)) f) in
+    let d : c .difference .result ≡ sub prime (seventhRoot prime (getD (uninternalBy prime es k (l .loop .state)) 0 0)) (getD C (at + (i - 1)) 0) =
+    c .difference .ensures ∙ ap (λ (n : ℕ). sub prime n (getD C (at + (i - 1)) 0)) (c .before .before .seventh-root .ensures ∙ ap (λ (ys : List ℕ). seventhRoot prime (getD ys 0 0)) f) in
     let q : set (u .uninternal .last .1 .1 .0) 0 (c .difference .result) ≡ partialFrom es k C at (s .args .rounds) xs (i - 1) =
     ap (λ (ys : List ℕ). set ys 0 (c .difference .result)) f
     ∙ partial-more es k C at (s .args .rounds) xs i (l .loop .state) (c .difference .result) (u .before .before .loop-test .taken) (l .loop .inv .0) (l .loop .inv .1) d in
-    (omega arith, q, subst (State p (length xs)) (sym q) (unpartialRoundsBy-state es k _ _ xs (record { width = refl; words = s .pre .1 })))
+    (omega arith, q, subst (State prime (length xs)) (sym q) (unpartialRoundsBy-state es k _ _ xs (record { width = refl; words = s .pre .1 })))
 
 same-length : tie.Need-same-length Inv-loop μ-loop
 same-length c = c .before .loop .inv .2 .width

@@ -3,7 +3,7 @@ use mathlib.Core.List.{List}
 use Prim.Native.Nat.{ℕ, _+_, _%_, _<_}
 use borrow.Author.Needs.{needs}
 use lib.ListN.{take}
-use Rattle.modular.specs.Goldilocks.{p}
+use Rattle.fields.specs.Prime.{prime}
 use Rattle.poseidon2.specs.Layers.{sum}
 use Rattle.poseidon2.specs.Statements.{Words}
 use Rattle.inversion.specs.Kept.{totalInverse, unpermuteBy}
@@ -21,7 +21,7 @@ total-inverse-requires c κs =
     let s = k .before .before in
     let D = s .args .diagonal .now in
     let e = sym (k .kept-inverses .ensures) in
-    (width-small (s .pre .0 .width) .1, subst (Words p) e (kept-words D (s .pre .1)), subst (λ (es : List ℕ). 0 < (1 + sum (take (s .args .width) es)) % p) e (kept-sum D (s .pre .1)))
+    (width-small (s .pre .0 .width) .1, subst (Words prime) e (kept-words D (s .pre .1)), subst (λ (es : List ℕ). 0 < (1 + sum (take (s .args .width) es)) % prime) e (kept-sum D (s .pre .1)))
 
 returns : tie.Need-returns
 returns c =
@@ -32,8 +32,8 @@ returns c =
     let D = a .diagonal .now in
     let es = i .kept-inverses .ensures in
     c .before .before .unpermute-by .ensures
-    ∙ ap₂ (λ (es : List ℕ) (total : ℕ). unpermuteBy p (a .width) (a .half) (a .partial-rounds) es total (a .constants .now) (a .state .now)) es
-    (k .total-inverse .ensures ∙ ap (totalInverse p (a .width)) es)
+    ∙ ap₂ (λ (es : List ℕ) (total : ℕ). unpermuteBy prime (a .width) (a .half) (a .partial-rounds) es total (a .constants .now) (a .state .now)) es
+    (k .total-inverse .ensures ∙ ap (totalInverse prime (a .width)) es)
     ∙ kept-unpermute D (s .pre .1) (a .half) (a .partial-rounds) (a .constants .now) (a .state .now) (s .pre .0 .state .width)
 
 pub unpermute-spec : {M : Type 1} → statement M

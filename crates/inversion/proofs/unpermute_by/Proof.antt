@@ -3,7 +3,7 @@ use Prim.Native.Nat.{_*_}
 use borrow.Author.Needs.{needs}
 use native.Mathlib.Omega.{arith}
 use lib.ListN.{length, take, drop}
-use Rattle.modular.specs.Goldilocks.{p}
+use Rattle.fields.specs.Prime.{prime}
 use Rattle.poseidon2.specs.Inverse.{unexternal, unfullRounds}
 use Rattle.poseidon2.specs.Statements.{Width}
 use Rattle.inversion.specs.Kept.{unpartialRoundsBy, unpermuteBy}
@@ -71,8 +71,8 @@ returns c =
     let x2 = partial-step _ _ _ _ _ (x1 .1) (c .before .before .before .before .before .before .before .before .before .before .unpartial-rounds .ensures) in
     let x3 = full-step _ _ _ (s .pre .width) (x2 .1) (c .before .before .before .before .before .before .unfull-rounds2 .ensures) in
     c .before .before .unexternal .ensures
-    ∙ ap (unexternal p) (x3 .0 ∙ ap (unfullRounds p (a .width) (a .half) (a .constants .now)) (x2 .0
-    ∙ ap (unpartialRoundsBy p (take (a .width) (a .inverses .now)) (a .total-inverse) (a .partial-rounds) (drop (a .width * a .half) (a .constants .now))) (x1 .0)))
+    ∙ ap (unexternal prime) (x3 .0 ∙ ap (unfullRounds prime (a .width) (a .half) (a .constants .now)) (x2 .0
+    ∙ ap (unpartialRoundsBy prime (take (a .width) (a .inverses .now)) (a .total-inverse) (a .partial-rounds) (drop (a .width * a .half) (a .constants .now))) (x1 .0)))
 
 pub unpermute-by-spec : {M : Type 1} → statement M
 unpermute-by-spec =

@@ -4,17 +4,17 @@ use native.Mathlib.Omega.{arith}
 use borrow.Author.Needs.{needs}
 use lib.ListN.{length}
 use Rattle.modular.specs.Arithmetic.{allWords}
-use Rattle.modular.specs.Goldilocks.{p}
+use Rattle.fields.specs.Prime.{prime}
 use Rattle.modular.proofs.Words.{none-words, word-first, not-word-first}
 use Rattle.parameters.proofs.Lists.{Undecided, decided, undecided, decided-end}
 use Rattle.parameters.proofs.all_words.Statement.{statement}
 use Rattle.parameters.proofs.all_words.Tie as tie
 
 abbrev Inv-loop : tie.InvT-loop
-Inv-loop numbers i₀ i = Undecided (allWords p) numbers i
+Inv-loop numbers order i₀ i = Undecided (allWords prime) numbers i
 
 abbrev μ-loop : tie.MeasureT-loop
-μ-loop numbers i₀ i = length numbers - i
+μ-loop numbers order i₀ i = length numbers - i
 
 loop-holds : tie.Need-loop-holds Inv-loop μ-loop
 loop-holds c = (omega arith, refl)
@@ -22,18 +22,18 @@ loop-holds c = (omega arith, refl)
 returns : tie.Need-returns Inv-loop μ-loop
 returns c =
     let l = c .before .before .before in
-    sym (decided (allWords p) _ _ (l .loop .inv) (omega arith) (not-word-first p _ _ (c .if1 .taken)))
+    sym (decided (allWords prime) _ _ (l .loop .inv) (omega arith) (not-word-first prime _ _ (rw (l .before .order .ensures) at (c .if1 .taken))))
 
 loop-again : tie.Need-loop-again Inv-loop μ-loop
 loop-again c =
     let l = c .before .before .before in
-    undecided (allWords p) _ _ (l .loop .inv) (omega arith) (word-first p _ _ (c .if1 .left))
+    undecided (allWords prime) _ _ (l .loop .inv) (omega arith) (word-first prime _ _ (rw (l .before .order .ensures) at (c .if1 .left)))
 
 returns-2 : tie.Need-returns-2 Inv-loop μ-loop
-returns-2 c = sym (decided-end (allWords p) _ _ (c .before .loop .inv) (omega arith) ∙ none-words p)
+returns-2 c = sym (decided-end (allWords prime) _ _ (c .before .loop .inv) (omega arith) ∙ none-words prime)
 
 pub all-words-spec : {M : Type 1} → statement M
 all-words-spec =
     tie.close
-    (tie.spec Inv-loop μ-loop loop-holds (λ c. search needs) (λ c. search needs) returns (λ c. search needs) (λ c. search needs)
+    (tie.spec Inv-loop μ-loop (λ c κs. search needs) loop-holds (λ c. search needs) (λ c. search needs) returns (λ c. search needs) (λ c. search needs)
     loop-again returns-2)

@@ -5,9 +5,8 @@ use Prim.Native.Nat.{ℕ, _-_, _%_, _≤_}
 use native.Mathlib.Omega.{arith}
 use borrow.Author.Needs.{needs}
 use lib.ListN.{length}
-use lib.Dec.{lit<}
-use Rattle.modular.specs.Goldilocks.{p}
-use Rattle.modular.proofs.Goldilocks.{goldilocks}
+use Rattle.fields.specs.Prime.{prime}
+use Rattle.fields.proofs.Prime.{positive, prime-field}
 use Rattle.modular.proofs.Words.{words-at}
 use Rattle.parameters.proofs.Lists.{nonzero-at}
 use Rattle.parameters.proofs.Diagonal.{Products, none-yet, one-more, refused, accepted}
@@ -15,13 +14,13 @@ use Rattle.parameters.proofs.bad_diagonal.Statement.{statement}
 use Rattle.parameters.proofs.bad_diagonal.Tie as tie
 
 abbrev Inv-loop : tie.InvT-loop
-Inv-loop diagonal all₀ but-one₀ i₀ all but-one i = (i ≤ length diagonal) × Products p goldilocks diagonal i all but-one
+Inv-loop diagonal all₀ but-one₀ i₀ all but-one i = (i ≤ length diagonal) × Products prime prime-field diagonal i all but-one
 
 abbrev μ-loop : tie.MeasureT-loop
 μ-loop diagonal all₀ but-one₀ i₀ all but-one i = length diagonal - i
 
 loop-holds : tie.Need-loop-holds Inv-loop μ-loop
-loop-holds c = (omega arith, none-yet p goldilocks (c .before .args .diagonal .now))
+loop-holds c = (omega arith, none-yet prime prime-field (c .before .args .diagonal .now))
 
 loop-again : tie.Need-loop-again Inv-loop μ-loop
 loop-again c =
@@ -30,29 +29,29 @@ loop-again c =
     let g = l .before .before in
     let D = g .args .diagonal .now in (
       omega arith,
-      one-more p goldilocks D (l .loop .i) (l .loop .all) (l .loop .but-one) (c .product .result) (s .product-sum .result) (omega arith)
-          (nonzero-at D (l .loop .i) (g .pre .1) (omega arith)) (words-at p D (l .loop .i) (g .pre .0) (omega arith)) (l .loop .inv .1) (c .product .ensures) (s .product-sum .ensures),
+      one-more prime prime-field D (l .loop .i) (l .loop .all) (l .loop .but-one) (c .lazy-product .result) (s .lazy-product-sum .result) (omega arith)
+          (nonzero-at D (l .loop .i) (g .pre .1) (omega arith)) (words-at prime D (l .loop .i) (g .pre .0) (omega arith)) (l .loop .inv .1) (c .lazy-product .ensures) (s .lazy-product-sum .ensures),
     )
 
 sum-requires : tie.Need-sum-requires Inv-loop μ-loop
-sum-requires c κs = (rw (c .before .residue .ensures) (mod-lt _ (lit< tt)), rw (c .residue2 .ensures) (mod-lt _ (lit< tt)))
+sum-requires c κs = (rw (c .before .residue .ensures) (mod-lt _ positive), rw (c .residue2 .ensures) (mod-lt _ positive))
 
 -- both products are over the whole list, and the sum is of their residues
-whole : (c : tie.After-sum Inv-loop μ-loop) → Products p goldilocks (c .before .before .before .before .before .before .args .diagonal .now) (length (c .before .before .before .before .before .before .args .diagonal .now)) (c .before .before .before .before .loop .all) (c .before .before .before .before .loop .but-one)
+whole : (c : tie.After-sum Inv-loop μ-loop) → Products prime prime-field (c .before .before .before .before .before .before .args .diagonal .now) (length (c .before .before .before .before .before .before .args .diagonal .now)) (c .before .before .before .before .loop .all) (c .before .before .before .before .loop .but-one)
 whole c =
     let l = c .before .before .before .before in
     let D = l .before .before .args .diagonal .now in
     let e : l .loop .i ≡ length D = omega arith in
-    subst (λ (n : ℕ). Products p goldilocks D n (l .loop .all) (l .loop .but-one)) e (l .loop .inv .1)
+    subst (λ (n : ℕ). Products prime prime-field D n (l .loop .all) (l .loop .but-one)) e (l .loop .inv .1)
 
-total : (c : tie.After-sum Inv-loop μ-loop) → c .sum .result ≡ add p (c .before .before .before .before .loop .all % p) (c .before .before .before .before .loop .but-one % p)
-total c = c .sum .ensures ∙ ap₂ (add p) (c .before .before .residue .ensures) (c .before .residue2 .ensures)
+total : (c : tie.After-sum Inv-loop μ-loop) → c .sum .result ≡ add prime (c .before .before .before .before .loop .all % prime) (c .before .before .before .before .loop .but-one % prime)
+total c = c .sum .ensures ∙ ap₂ (add prime) (c .before .before .residue .ensures) (c .before .residue2 .ensures)
 
 returns : tie.Need-returns Inv-loop μ-loop
-returns c = sym (refused p goldilocks _ _ _ (whole (c .before)) (sym (total (c .before)) ∙ c .if1 .taken))
+returns c = sym (refused prime prime-field _ _ _ (whole (c .before)) (sym (total (c .before)) ∙ c .if1 .taken))
 
 returns-2 : tie.Need-returns-2 Inv-loop μ-loop
-returns-2 c = sym (accepted p goldilocks _ _ _ (whole (c .before)) (λ e. c .if1 .left (total (c .before) ∙ e)))
+returns-2 c = sym (accepted prime prime-field _ _ _ (whole (c .before)) (λ e. c .if1 .left (total (c .before) ∙ e)))
 
 pub bad-diagonal-spec : {M : Type 1} → statement M
 bad-diagonal-spec =

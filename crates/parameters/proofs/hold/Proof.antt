@@ -2,7 +2,7 @@ use mathlib.Core.Path.{_≡_, sym, _∙_}
 use mathlib.Core.List.{List}
 use Prim.Native.Nat.{ℕ}
 use borrow.Author.Needs.{needs}
-use Rattle.modular.specs.Goldilocks.{p}
+use Rattle.fields.specs.Prime.{prime}
 use Rattle.parameters.specs.ParameterSet.{padded, held}
 use Rattle.parameters.proofs.Accepted.{shape-fits}
 use Rattle.parameters.proofs.Answers.{held-refused, held-whole}
@@ -18,7 +18,7 @@ of-places t l h rf rp E F e f = λ i. record { width = t; «node_size» = l; hei
 returns : tie.Need-returns
 returns c =
     let r = c .before in
-    held-refused p _ _ _ _ _ _ _ _ _ (r .before .refusal-of-shape .ensures) (r .if1 .taken) (c .no-set .ensures)
+    held-refused prime _ _ _ _ _ _ _ _ _ (r .before .refusal-of-shape .ensures) (r .if1 .taken) (c .no-set .ensures)
 
 hold-diagonal-requires : tie.Need-hold-diagonal-requires
 hold-diagonal-requires c κs = shape-fits _ _ _ _ _ _ _ (sym (c .before .refusal-of-shape .ensures) ∙ c .if1 .left) .0
@@ -29,7 +29,7 @@ hold-constants-requires c κs = shape-fits _ _ _ _ _ _ _ (sym (c .before .before
 returns-2 : tie.Need-returns-2
 returns-2 c =
     let r = c .before .before in
-    held-whole p _ _ _ _ _ _ _ _ _ (r .before .refusal-of-shape .ensures) (r .if1 .left) (of-places _ _ _ _ _ _ _ (c .before .hold-diagonal .ensures) (c .hold-constants .ensures))
+    held-whole prime _ _ _ _ _ _ _ _ _ (r .before .refusal-of-shape .ensures) (r .if1 .left) (of-places _ _ _ _ _ _ _ (c .before .hold-diagonal .ensures) (c .hold-constants .ensures))
 
 pub hold-spec : {M : Type 1} → statement M
 hold-spec =

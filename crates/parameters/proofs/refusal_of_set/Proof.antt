@@ -3,7 +3,7 @@ use mathlib.Core.List.{List}
 use Prim.Native.Nat.{ℕ}
 use native.Mathlib.Omega.{arith}
 use borrow.Author.Needs.{needs}
-use Rattle.modular.specs.Goldilocks.{p}
+use Rattle.fields.specs.Prime.{prime}
 use Rattle.refusals.specs.Table.{firstRefusal}
 use Rattle.refusals.proofs.Table.{front-answers, first-back}
 use Rattle.parameters.specs.Refusals.{constantCount, listRefusals}
@@ -12,7 +12,7 @@ use Rattle.parameters.proofs.Accepted.{Numbers, numbers-of, numbers-num
 use Rattle.parameters.proofs.refusal_of_set.Statement.{statement}
 use Rattle.parameters.proofs.refusal_of_set.Tie as tie
 
-same-lists : {D E C F : List ℕ} → D ≡ E → C ≡ F → firstRefusal (listRefusals p D C) ≡ firstRefusal (listRefusals p E F)
+same-lists : {D E C F : List ℕ} → D ≡ E → C ≡ F → firstRefusal (listRefusals prime D C) ≡ firstRefusal (listRefusals prime E F)
 same-lists e f = cc
 
 returns : tie.Need-returns

@@ -1,5 +1,4 @@
 use mathlib.Core.Path.{_∙_}
-use Rattle.modular.specs.Goldilocks.{p}
 use Rattle.program.specs.Program.{readValidation, readCount}
 use Rattle.program.proofs.ProgramInput.{same-take, same-validation, first-of}
 use borrow.Author.Needs.{needs}
@@ -11,7 +10,7 @@ unfolding readValidation
 returns c =
     let width = c .before .before .before .before .before .before .before .before .before .before .number-at .ensures in
     c .validate .ensures
-    ∙ same-validation p
+    ∙ same-validation _
     width
     (c .before .before .before .before .before .before .before .number-at2 .ensures)
     (c .before .before .before .before .before .before .number-at3 .ensures)

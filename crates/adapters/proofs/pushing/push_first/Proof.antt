@@ -44,7 +44,6 @@ use denote.Triple.Clauses.{ensured, lasts}
 use denote.Triple.Table.{entered, cited}
 use denote.Triple.Walked.{says, needs, Stays, stay-dropped, gave-slice, walkOf, Walks, ends-at, walked, goes-dropped, goes-gave-slice, walk-meets}
 use denote.Exit.{yes as kept}
-use Rattle.modular.specs.Goldilocks.{p}
 use Rattle.parameters.specs.declared.ParameterSet.{ParameterSet}
 use Rattle.parameters.proofs.ParameterSet as P
 use Rattle.parameters.proofs.ParameterSet.Laws as P′
@@ -155,7 +154,7 @@ module _ {M : Type 1} (𝓤 : URA M) (H : Heap 𝓤) (A : Atoms 𝓤) (W : Given
 
   -- what is said of the result and of the store's last list
   abbrev Said : Changed → List ℕ → Type 0
-  Said r zs = (changedReply r ≡ pushReply p s xs (take n rs)) × (zs ≡ pushed p s xs (take n rs))
+  Said r zs = (changedReply r ≡ pushReply s xs (take n rs)) × (zs ≡ pushed s xs (take n rs))
 
   abbrev to : ℕ → ℕ → GName → Push 𝓤 H A at-mem run .Ghost
   to ν l δ = (((κ, (ν ∷ [], tt)), (q, (fullShare, tt)), tt, (s, (st, (lent l δ, tt))), (pv s ∷ [], (sv ∷ [], (lv l ∷ [], tt)))), tt)

@@ -4,7 +4,6 @@ use Prim.Native.Nat.{ℕ, _-_, _≤_}
 use native.Mathlib.Omega.{arith}
 use lib.ListN.{take}
 use borrow.Author.Needs.{needs}
-use Rattle.modular.specs.Goldilocks.{p}
 use Rattle.push_entries.specs.Pushes.{pushReply, pushed}
 use Rattle.adapters.specs.Listed.{firstSixteen}
 use Rattle.adapters.proofs.Listed.{Filled, filled-none, filled-next, filled-all}
@@ -58,7 +57,7 @@ returns c =
     let e : n ≡ l .loop .i = omega (arith, l .loop .inv .0) in
     let g : take n (l .loop .records) ≡ firstSixteen (a .numbers .now) =
     ap (λ (k : ℕ). take k (l .loop .records)) e ∙ filled-all _ _ _ (sym e ∙ l .before .record-count .ensures) (l .loop .inv .1) in
-    (f .push-first .ensures .0 ∙ ap (pushReply p (a .set) (a .store .now)) g, f .push-first .ensures .1 ∙ ap (pushed p (a .set) (a .store .now)) g)
+    (f .push-first .ensures .0 ∙ ap (pushReply (a .set) (a .store .now)) g, f .push-first .ensures .1 ∙ ap (pushed (a .set) (a .store .now)) g)
 
 pub push-list-spec : {M : Type 1} → statement M
 push-list-spec =

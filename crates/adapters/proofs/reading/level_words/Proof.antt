@@ -39,7 +39,6 @@ use denote.Triple.Clauses.{ensured, lasts}
 use denote.Triple.Table.{entered, cited}
 use denote.Triple.Walked.{says, Stays, stay-dropped, walkOf, Walks, ends-at, walked, goes-dropped, walk-meets}
 use denote.Exit.{yes as kept}
-use Rattle.modular.specs.Goldilocks.{p}
 use Rattle.parameters.specs.declared.ParameterSet.{ParameterSet}
 use Rattle.parameters.proofs.ParameterSet as sets
 use Rattle.parameters.proofs.ParameterSet.Laws as sets′
@@ -118,7 +117,7 @@ module _ {M : Type 1} (𝓤 : URA M) (H : Heap 𝓤) (A : Atoms 𝓤) (W : Given
   goes-reading = qed W ((‵ (flft κ q) ⊛ ‵ ftrue) ∷ ‵ (owns (sets.the-row ∷ ShrSlice (named 0) κ u64 ∷ u64 ∷ []) args vals) ∷ []) ∵ join ! $ frame ! $ done !
 
   abbrev IsPart : Part → Type 0
-  IsPart r = (partReply (r .number) (now (r .words)) ≡ readReply p s (now x) j) × (now (r .words) ≡ readWords p s (now x) j)
+  IsPart r = (partReply (r .number) (now (r .words)) ≡ readReply s (now x) j) × (now (r .words) ≡ readWords s (now x) j)
 
   reading-said : (r : Part) → ent 𝓤 (ensured 𝓤 H A reading.ended (reading.clauses 𝓤 H A mem run) (κ, tt) args tt r) (fact 𝓤 (IsPart r))
   reading-said r = exE 𝓤 _ (λ ends. snd∗ 𝓤 (sem 𝓤 H A (lasts reading.ended (κ, tt) args ends)) (fact 𝓤 (IsPart r)))
@@ -126,7 +125,7 @@ module _ {M : Type 1} (𝓤 : URA M) (H : Heap 𝓤) (A : Atoms 𝓤) (W : Given
   abbrev fields : Part → Values (parts.the-type α .parts)
   fields r = (r .words, (r .number, tt))
 
-  exits : (r : RefT (List ℕ)) → now r ≡ readWords p s (now x) j → ent 𝓤 (⋆ 𝓤 H A ((‵ (flft κ q) ⊛ ‵ ftrue) ∷ ‵ (ShrSlice (named 0) κ u64 .own r (slice-vals r)) ∷ [])) (Post (only (slice-vals r)))
+  exits : (r : RefT (List ℕ)) → now r ≡ readWords s (now x) j → ent 𝓤 (⋆ 𝓤 H A ((‵ (flft κ q) ⊛ ‵ ftrue) ∷ ‵ (ShrSlice (named 0) κ u64 .own r (slice-vals r)) ∷ [])) (Post (only (slice-vals r)))
   exits r e =
       qed W ((‵ (flft κ q) ⊛ ‵ ftrue) ∷ ‵ (ShrSlice (named 0) κ u64 .own r (slice-vals r)) ∷ []) ∵
       suffices ! _ (ends-at 𝓤 H A all.ended stayed (all.clauses 𝓤 H A mem run) W bound (only (slice-vals r)) r (tt, (tt, (tt, tt))) (tt, (tt, (tt, tt)))) $ says ! e $

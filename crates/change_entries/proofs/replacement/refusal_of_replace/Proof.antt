@@ -5,15 +5,15 @@ use Prim.Native.Nat.{ℕ}
 use borrow.Author.Needs.{needs}
 use borrow.Author.Tests.{eq-eqb, ne-eqb, lt-ltb, le-ltb, not-true, not-false}
 use Rattle.modular.specs.Arithmetic.{allWords}
-use Rattle.modular.specs.Goldilocks.{p}
 use Rattle.modular.proofs.Words.{words-append}
 use Rattle.refusals.proofs.Table.{first-front}
 use Rattle.refusals.proofs.LengthsAndWords.{first-bad, second-bad, both-good}
 use Rattle.refusals.proofs.LengthsPlacesAndWords.{at-10, at-11, at-words, twelve, no-twelve, left-not-words, right-not-words}
 use Rattle.parameters.specs.declared.ParameterSet.{ParameterSet}
+use Rattle.parameters.specs.ParameterSet.{primeOf}
 use Rattle.parameters.proofs.Accepted.{set-numbered}
 use Rattle.merkle.specs.Openings.{opening}
-use Rattle.trees.specs.Shapes.{tree}
+use Rattle.trees.specs.Shapes.{primeOfTree, tree}
 use Rattle.trees.specs.declared.Dimensions.{Dimensions}
 use Rattle.trees.proofs.SetTrees.{same-size, valid-numbers}
 use Rattle.trees.specs.SetTrees.{dimensionsOf, treeOf}
@@ -23,8 +23,8 @@ use Rattle.change_entries.proofs.replacement.refusal_of_replace.Tie as 
 
 -- the test of the stored siblings is of the set's own tree
 stored : (s : ParameterSet) (q : ℕ) (store : List ℕ) (d : Dimensions) {b : Bool} → d ≡ dimensionsOf s
-    → b ≡ allWords p (opening (tree d (s .diagonal) (s .constants)) (d .height) q store) → b ≡ allWords p (opening (treeOf p s) (s .height) q store)
-stored s q store d e f = f ∙ ap (λ (x : Dimensions). allWords p (opening (tree x (s .diagonal) (s .constants)) (x .height) q store)) e
+    → b ≡ allWords (primeOfTree d) (opening (tree d (s .diagonal) (s .constants)) (d .height) q store) → b ≡ allWords (primeOf s) (opening (treeOf s) (s .height) q store)
+stored s q store d e f = f ∙ ap (λ (x : Dimensions). allWords (primeOfTree x) (opening (tree x (s .diagonal) (s .constants)) (x .height) q store)) e
 
 refusal-of-requires : tie.Need-refusal-of-requires
 refusal-of-requires c κs = search needs
@@ -42,14 +42,14 @@ returns-2 : tie.Need-returns-2
 unfolding replaceRefusals
 returns-2 c =
     let r = c .before .before in
-    sym (at-10 p _ (set-numbered p _) _ _ _ (sym (r .before .refusal-of .ensures) ∙ r .if1 .left) (first-bad _ _ (ne-eqb _ _ (λ z. c .if2 .taken (z ∙ sym (c .before .store-words .ensures))))))
+    sym (at-10 _ _ (set-numbered _) _ _ _ (sym (r .before .refusal-of .ensures) ∙ r .if1 .left) (first-bad _ _ (ne-eqb _ _ (λ z. c .if2 .taken (z ∙ sym (c .before .store-words .ensures))))))
 
 returns-3 : tie.Need-returns-3
 unfolding replaceRefusals
 returns-3 c =
     let n = c .before .before in
     let r = n .before .before in
-    sym (at-10 p _ (set-numbered p _) _ _ _ (sym (r .before .refusal-of .ensures) ∙ r .if1 .left) (second-bad _ _ (eq-eqb _ _ (n .if2 .left ∙ n .before .store-words .ensures)) (ne-eqb _ _ (c .if3 .taken))))
+    sym (at-10 _ _ (set-numbered _) _ _ _ (sym (r .before .refusal-of .ensures) ∙ r .if1 .left) (second-bad _ _ (eq-eqb _ _ (n .if2 .left ∙ n .before .store-words .ensures)) (ne-eqb _ _ (c .if3 .taken))))
 
 places-requires : tie.Need-places-requires
 places-requires c κs = search needs
@@ -60,7 +60,7 @@ returns-4 c =
     let m = c .before .before in
     let n = m .before .before in
     let r = n .before .before in
-    sym (at-11 p _ (set-numbered p _) _ _ _ (sym (r .before .refusal-of .ensures) ∙ r .if1 .left) (both-good _ _ (eq-eqb _ _ (n .if2 .left ∙ n .before .store-words .ensures)) (eq-eqb _ _ (m .if3 .left))) (ap not (le-ltb _ _ (rw (c .before .places .ensures) at (c .if4 .taken)))))
+    sym (at-11 _ _ (set-numbered _) _ _ _ (sym (r .before .refusal-of .ensures) ∙ r .if1 .left) (both-good _ _ (eq-eqb _ _ (n .if2 .left ∙ n .before .store-words .ensures)) (eq-eqb _ _ (m .if3 .left))) (ap not (le-ltb _ _ (rw (c .before .places .ensures) at (c .if4 .taken)))))
 
 all-words-requires : tie.Need-all-words-requires
 all-words-requires c κs = search needs
@@ -72,8 +72,8 @@ returns-5 c =
     let m = q .before .before in
     let n = m .before .before in
     let r = n .before .before in
-    sym (at-words p _ (set-numbered p _) _ _ _ (sym (r .before .refusal-of .ensures) ∙ r .if1 .left) (both-good _ _ (eq-eqb _ _ (n .if2 .left ∙ n .before .store-words .ensures)) (eq-eqb _ _ (m .if3 .left))) (ap not (lt-ltb _ _ (rw (q .before .places .ensures) at (q .if4 .left))))
-    ∙ twelve p _ (left-not-words p _ _ (sym (c .before .all-words .ensures) ∙ not-true _ (c .if5 .taken))))
+    sym (at-words _ _ (set-numbered _) _ _ _ (sym (r .before .refusal-of .ensures) ∙ r .if1 .left) (both-good _ _ (eq-eqb _ _ (n .if2 .left ∙ n .before .store-words .ensures)) (eq-eqb _ _ (m .if3 .left))) (ap not (lt-ltb _ _ (rw (q .before .places .ensures) at (q .if4 .left))))
+    ∙ twelve _ _ (left-not-words _ _ _ (sym (c .before .all-words .ensures) ∙ not-true _ (c .if5 .taken))))
 
 dimensions-requires : tie.Need-dimensions-requires
 dimensions-requires c κs = search needs
@@ -99,8 +99,8 @@ returns-6 c =
     let r = n .before .before in
     let a = r .before .before .before .before .args in
     let d = c .before .before .dimensions .ensures in
-    sym (at-words p _ (set-numbered p _) _ _ _ (sym (r .before .refusal-of .ensures) ∙ r .if1 .left) (both-good _ _ (eq-eqb _ _ (n .if2 .left ∙ n .before .store-words .ensures)) (eq-eqb _ _ (m .if3 .left))) (ap not (lt-ltb _ _ (rw (q .before .places .ensures) at (q .if4 .left))))
-    ∙ twelve p _ (right-not-words p (a .leaf .now) _ (sym (stored (a .set) (a .place) (a .store .now) _ d (c .before .opening-is-words .ensures (a .set .diagonal) (a .set .constants))) ∙ not-true _ (c .if6 .taken))))
+    sym (at-words _ _ (set-numbered _) _ _ _ (sym (r .before .refusal-of .ensures) ∙ r .if1 .left) (both-good _ _ (eq-eqb _ _ (n .if2 .left ∙ n .before .store-words .ensures)) (eq-eqb _ _ (m .if3 .left))) (ap not (lt-ltb _ _ (rw (q .before .places .ensures) at (q .if4 .left))))
+    ∙ twelve _ _ (right-not-words _ (a .leaf .now) _ (sym (stored (a .set) (a .place) (a .store .now) _ d (c .before .opening-is-words .ensures (a .set .diagonal) (a .set .constants))) ∙ not-true _ (c .if6 .taken))))
 
 returns-7 : tie.Need-returns-7
 unfolding replaceRefusals
@@ -112,8 +112,8 @@ returns-7 c =
     let r = n .before .before in
     let a = r .before .before .before .before .args in
     let d = c .before .before .dimensions .ensures in
-    sym (at-words p _ (set-numbered p _) _ _ _ (sym (r .before .refusal-of .ensures) ∙ r .if1 .left) (both-good _ _ (eq-eqb _ _ (n .if2 .left ∙ n .before .store-words .ensures)) (eq-eqb _ _ (m .if3 .left))) (ap not (lt-ltb _ _ (rw (q .before .places .ensures) at (q .if4 .left))))
-    ∙ no-twelve p _ (words-append p _ _ (sym (w .before .all-words .ensures) ∙ not-false _ (w .if5 .left))
+    sym (at-words _ _ (set-numbered _) _ _ _ (sym (r .before .refusal-of .ensures) ∙ r .if1 .left) (both-good _ _ (eq-eqb _ _ (n .if2 .left ∙ n .before .store-words .ensures)) (eq-eqb _ _ (m .if3 .left))) (ap not (lt-ltb _ _ (rw (q .before .places .ensures) at (q .if4 .left))))
+    ∙ no-twelve _ _ (words-append _ _ _ (sym (w .before .all-words .ensures) ∙ not-false _ (w .if5 .left))
     (sym (stored (a .set) (a .place) (a .store .now) _ d (c .before .opening-is-words .ensures (a .set .diagonal) (a .set .constants))) ∙ not-false _ (c .if6 .left))))
 
 pub refusal-of-replace-spec : {M : Type 1} → statement M

@@ -2,7 +2,6 @@ use mathlib.Core.Path.{sym, ap, _∙_}
 use mathlib.Core.List.{[], _∷_}
 use Prim.Native.Nat.{ℕ}
 use borrow.Author.Needs.{needs}
-use Rattle.modular.specs.Goldilocks.{p}
 use Rattle.refusals.specs.Table.{done}
 use Rattle.refusals.proofs.Table.{refused-equations, done-equations}
 use Rattle.trees.proofs.SetTrees as tree-of
@@ -19,7 +18,7 @@ same-length c = search needs
 
 returns : tie.Need-returns
 unfolding changedReply replaceReply replaced
-returns c = refused-equations (replaceRefusals p _ _ _ _) _ _ _ _ (c .before .refusal-of-replace .ensures) (c .if1 .taken)
+returns c = refused-equations (replaceRefusals _ _ _ _) _ _ _ _ (c .before .refusal-of-replace .ensures) (c .if1 .taken)
 
 passed : (c : tie.Else1) → Replaced (c .before .before .before .before .before .args .set) (c .before .before .before .before .before .args .store .now) (c .before .before .before .before .before .args .place) (c .before .before .before .before .before .args .leaf .now)
 passed c = replace-passed _ _ _ _ (sym (c .before .refusal-of-replace .ensures) ∙ c .if1 .left)
@@ -41,7 +40,7 @@ unfolding changedReply replaceReply replaced
 returns-2 c =
     let w = c .before .before in
     let d = w .before .before .before .before .before .before in
-    let e = done-equations (replaceRefusals p _ _ _ _) _ _ _ (replace-numbered _ _ _ _) (sym (d .before .before .refusal-of-replace .ensures) ∙ d .before .if1 .left) in
+    let e = done-equations (replaceRefusals _ _ _ _) _ _ _ (replace-numbered _ _ _ _) (sym (d .before .before .refusal-of-replace .ensures) ∙ d .before .if1 .left) in
     let f = rw (d .dimensions .ensures) at (w .replace .ensures) in
     (ap (λ (n : ℕ). done (n ∷ [])) (f .1) ∙ e .0, f .0 ∙ e .1)
 

@@ -1,7 +1,7 @@
 use mathlib.Core.Path.{sym}
 use borrow.Author.Needs.{needs}
 use native.Mathlib.Omega.{arith}
-use Rattle.modular.specs.Goldilocks.{p}
+use Rattle.fields.specs.Prime.{prime}
 use Rattle.inversion.proofs.Blocks.{add-four}
 use Rattle.inversion.proofs.external.add_blocks.Statement.{statement}
 use Rattle.inversion.proofs.external.add_blocks.Tie as tie
@@ -22,7 +22,7 @@ returns : tie.Need-returns
 returns c =
     let s = c .before .before .before in
     let a = s .before .args in
-    rw (c .sum4 .ensures, c .before .sum3 .ensures, c .before .before .sum2 .ensures, s .sum .ensures) (sym (add-four p (a .t1) (a .t2) (omega arith)))
+    rw (c .sum4 .ensures, c .before .sum3 .ensures, c .before .before .sum2 .ensures, s .sum .ensures) (sym (add-four prime (a .t1) (a .t2) (omega arith)))
 
 pub add-blocks-spec : {M : Type 1} → statement M
 add-blocks-spec =

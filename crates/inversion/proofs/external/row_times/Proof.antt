@@ -1,8 +1,9 @@
 use mathlib.Core.Path.{ap₂, _∙_}
 use borrow.Author.Needs.{needs}
 use Rattle.modular.specs.Arithmetic.{add}
-use Rattle.modular.specs.Goldilocks.{p}
-use Rattle.inversion.proofs.Words.{positive, add-word, mul-word}
+use Rattle.fields.specs.Prime.{prime}
+use Rattle.fields.proofs.Prime.{positive}
+use Rattle.inversion.proofs.Words.{add-word, mul-word}
 use Rattle.inversion.proofs.Blocks.{row-four}
 use Rattle.inversion.proofs.external.row_times.Statement.{statement}
 use Rattle.inversion.proofs.external.row_times.Tie as tie
@@ -22,9 +23,9 @@ returns c =
     let x = a .t5 in
     let s = c .before .before .before .before in
     c .sum3 .ensures
-    ∙ ap₂ (add p)
-    (s .sum .ensures ∙ ap₂ (add p) (s .before .before .product .ensures) (s .before .product2 .ensures))
-    (c .before .sum2 .ensures ∙ ap₂ (add p) (c .before .before .before .product3 .ensures) (c .before .before .product4 .ensures))
+    ∙ ap₂ (add prime)
+    (s .sum .ensures ∙ ap₂ (add prime) (s .before .before .product .ensures) (s .before .product2 .ensures))
+    (c .before .sum2 .ensures ∙ ap₂ (add prime) (c .before .before .before .product3 .ensures) (c .before .before .product4 .ensures))
     ∙ row-four positive (a .a) (a .b) (a .c) (a .d) x
 
 pub row-times-spec : {M : Type 1} → statement M

@@ -4,7 +4,7 @@ use Prim.Native.Nat.{_/_}
 use borrow.Author.Needs.{needs}
 use native.Mathlib.Omega.{arith}
 use lib.ListN.{length}
-use Rattle.modular.specs.Goldilocks.{p}
+use Rattle.fields.specs.Prime.{prime}
 use Rattle.poseidon2.specs.Inverse.{scaled}
 use Rattle.poseidon2.proofs.Words.{cons-eq}
 use Rattle.inversion.proofs.Parts.{part-of, minus-third, minus-quarter}
@@ -26,13 +26,13 @@ returns c =
     let two : length xs ≡ 8 → 2 ≡ length xs / 4 = λ h. omega arith in
     let three : (length xs ≡ 8 → ⊥) → 3 ≡ length xs / 4 = λ h. ⊎-elim (λ g. absurd (h g)) (λ g. omega arith) (s .pre .0) in
     let k : j .if1 .part ≡ part-of (length xs / 4) =
-    ⊎-elim (λ w. w .1 ∙ minus-third ∙ ap part-of (two (w .0 .taken))) (λ w. w .1 ∙ minus-quarter ∙ ap part-of (three (w .0 .left))) (j .if1 .came) in
+    ⊎-elim (λ w. w .2 ∙ minus-third (w .1 .ensures) ∙ ap part-of (two (w .0 .taken))) (λ w. w .2 ∙ minus-quarter (w .1 .ensures) ∙ ap part-of (three (w .0 .left))) (j .if1 .came) in
     cons-eq (c .before .before .before .product .ensures) (cons-eq (c .before .before .product2 .ensures) (cons-eq (c .before .product3 .ensures) (cons-eq (c .product4 .ensures) refl)))
-    ∙ scaled-four p (j .if1 .part) (u .sum-blocks .result) (omega arith)
-    ∙ ap₂ (scaled p) k (u .sum-blocks .ensures)
+    ∙ scaled-four prime (j .if1 .part) (u .sum-blocks .result) (omega arith)
+    ∙ ap₂ (scaled prime) k (u .sum-blocks .ensures)
 
 pub share-spec : {M : Type 1} → statement M
 share-spec =
     tie.close
-    (tie.spec sum-blocks-requires (λ c. search needs) (λ c. search needs) (λ c. search needs) (λ c. search needs) (λ c. search needs)
-    (λ c. search needs) (λ c. search needs) (λ c. search needs) returns)
+    (tie.spec (λ c κs. search needs) (λ c κs. search needs) sum-blocks-requires (λ c. search needs) (λ c κs. search needs) (λ c. search needs) (λ c κs. search needs)
+    (λ c. search needs) (λ c κs. search needs) (λ c. search needs) (λ c κs. search needs) returns)

@@ -4,15 +4,15 @@ use mathlib.Core.List.{List}
 use Prim.Native.Nat.{ℕ, _+_, _-_, _%_, _≤_}
 use native.Mathlib.Omega.{arith}
 use lib.ListN.{length, drop}
-use Rattle.modular.specs.Goldilocks.{p}
+use Rattle.fields.specs.Prime.{prime}
 use Rattle.poseidon2.specs.Layers.{addLists, blocks, sumBlocks}
-use Rattle.inversion.proofs.Words.{positive}
+use Rattle.fields.proofs.Prime.{positive}
 use Rattle.inversion.proofs.Blocks.{sum-none, sum-more, sum-words, block-words}
 use Rattle.inversion.proofs.external.sum_blocks.Statement.{statement}
 use Rattle.inversion.proofs.external.sum_blocks.Tie as tie
 
 abbrev Inv-loop : tie.InvT-loop
-Inv-loop state total₀ i₀ total i = (i ≤ length state) × (i % 4 ≡ 0) × (total ≡ sumBlocks p (blocks (drop i state)))
+Inv-loop state total₀ i₀ total i = (i ≤ length state) × (i % 4 ≡ 0) × (total ≡ sumBlocks prime (blocks (drop i state)))
 
 abbrev μ-loop : tie.MeasureT-loop
 μ-loop state total₀ i₀ total i = i
@@ -20,7 +20,7 @@ abbrev μ-loop : tie.MeasureT-loop
 loop-holds : tie.Need-loop-holds Inv-loop μ-loop
 loop-holds c =
     let s = c .before in
-    (omega arith, s .pre .0, sum-none p (s .args .state .now))
+    (omega arith, s .pre .0, sum-none prime (s .args .state .now))
 
 add-blocks-requires : tie.Need-add-blocks-requires Inv-loop μ-loop
 add-blocks-requires c κs =
@@ -36,15 +36,15 @@ loop-again c =
     let e : i ≡ i - 4 + 4 = omega arith in (
       omega arith,
       omega arith,
-      c .add-blocks .ensures ∙ ap (λ (b : List ℕ). addLists p b (l .loop .total)) (c .before .block-at .ensures)
-          ∙ sum-more p (i - 4) xs (l .loop .total) (omega arith) (l .loop .inv .2 ∙ ap (λ (n : ℕ). sumBlocks p (blocks (drop n xs))) e),
+      c .add-blocks .ensures ∙ ap (λ (b : List ℕ). addLists prime b (l .loop .total)) (c .before .block-at .ensures)
+          ∙ sum-more prime (i - 4) xs (l .loop .total) (omega arith) (l .loop .inv .2 ∙ ap (λ (n : ℕ). sumBlocks prime (blocks (drop n xs))) e),
     )
 
 returns : tie.Need-returns Inv-loop μ-loop
 returns c =
     let l = c .before in
     let e : l .loop .i ≡ 0 = omega arith in
-    l .loop .inv .2 ∙ ap (λ (n : ℕ). sumBlocks p (blocks (drop n (l .before .before .args .state .now)))) e
+    l .loop .inv .2 ∙ ap (λ (n : ℕ). sumBlocks prime (blocks (drop n (l .before .before .args .state .now)))) e
 
 pub sum-blocks-spec : {M : Type 1} → statement M
 sum-blocks-spec =

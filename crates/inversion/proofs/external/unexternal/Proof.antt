@@ -5,7 +5,7 @@ use Prim.Native.Nat.{ℕ, _/_}
 use borrow.Author.Needs.{needs}
 use native.Mathlib.Omega.{arith}
 use lib.ListN.{length}
-use Rattle.modular.specs.Goldilocks.{p}
+use Rattle.fields.specs.Prime.{prime}
 use Rattle.poseidon2.specs.Statements.{Words}
 use Rattle.inversion.proofs.Words.{zero-words, scaled-words}
 use Rattle.inversion.proofs.Blocks.{each, whole-width, several-width, unexternal-alone, unexternal-several}
@@ -29,7 +29,7 @@ share-requires c κs =
 unm4-each-requires-2 : tie.Need-unm4-each-requires-2
 unm4-each-requires-2 c κs =
     let s = c .before .before .before .before .before in
-    (whole-width (s .pre .0), subst (Words p) (sym (c .before .share .ensures)) (scaled-words _ _), s .pre .1)
+    (whole-width (s .pre .0), subst (Words prime) (sym (c .before .share .ensures)) (scaled-words _ _), s .pre .1)
 
 returns-2 : tie.Need-returns-2
 returns-2 c =
@@ -38,7 +38,7 @@ returns-2 c =
     let s = e .before .before in
     let xs = s .args .state .now in
     let w = several-width (s .pre .0) (e .if1 .left) in
-    c .before .before .unm4-each2 .ensures ∙ ap (λ (b : List ℕ). each p b xs) (u .share .ensures) ∙ unexternal-several p (length xs / 4) xs (w .0) (w .1)
+    c .before .before .unm4-each2 .ensures ∙ ap (λ (b : List ℕ). each prime b xs) (u .share .ensures) ∙ unexternal-several prime (length xs / 4) xs (w .0) (w .1)
 
 pub unexternal-spec : {M : Type 1} → statement M
 unexternal-spec =

@@ -3,7 +3,7 @@ use Prim.Native.Nat.{ℕ, _-_, _≤_}
 use native.Mathlib.Omega.{arith}
 use lib.ListN.{getD, replicate}
 use Rattle.modular.specs.Arithmetic.{inverse}
-use Rattle.modular.specs.Goldilocks.{p}
+use Rattle.fields.specs.Prime.{prime}
 use Rattle.inversion.specs.Kept.{keptInverses}
 use Rattle.inversion.proofs.Placewise.{done, done-none, done-more, done-inverses}
 use Rattle.inversion.proofs.Kept.{nonzero-at, word-at, long-enough}
@@ -11,7 +11,7 @@ use Rattle.inversion.proofs.internal.kept_inverses.Statement.{statement
 use Rattle.inversion.proofs.internal.kept_inverses.Tie as tie
 
 abbrev Inv-loop : tie.InvT-loop
-Inv-loop width diagonal inverses₀ i₀ inverses i = (i ≤ width) × (inverses ≡ done (λ k x. inverse p (getD diagonal k 0)) i (replicate 12 0))
+Inv-loop width diagonal inverses₀ i₀ inverses i = (i ≤ width) × (inverses ≡ done (λ k x. inverse prime (getD diagonal k 0)) i (replicate 12 0))
 
 abbrev μ-loop : tie.MeasureT-loop
 μ-loop width diagonal inverses₀ i₀ inverses i = width - i
@@ -29,7 +29,7 @@ loop-again : tie.Need-loop-again Inv-loop μ-loop
 loop-again c =
     let l = c .before .before .before in
     let s = l .before in
-    (omega arith, done-more (λ k x. inverse p (getD (s .args .diagonal .now) k 0)) (l .loop .i) (replicate 12 0) (l .loop .inverses) (c .inverse .result) (l .loop .inv .1) (omega arith) (c .inverse .ensures))
+    (omega arith, done-more (λ k x. inverse prime (getD (s .args .diagonal .now) k 0)) (l .loop .i) (replicate 12 0) (l .loop .inverses) (c .inverse .result) (l .loop .inv .1) (omega arith) (c .inverse .ensures))
 
 returns : tie.Need-returns Inv-loop μ-loop
 unfolding keptInverses
@@ -37,7 +37,7 @@ returns c =
     let s = c .before .before in
     let D = s .args .diagonal .now in
     let e : c .before .loop .i ≡ s .args .width = omega arith in
-    c .before .loop .inv .1 ∙ ap (λ (n : ℕ). done (λ k x. inverse p (getD D k 0)) n (replicate 12 0)) e ∙ done-inverses p 12 (s .args .width) D (s .pre .0) (long-enough D (s .pre .1))
+    c .before .loop .inv .1 ∙ ap (λ (n : ℕ). done (λ k x. inverse prime (getD D k 0)) n (replicate 12 0)) e ∙ done-inverses prime 12 (s .args .width) D (s .pre .0) (long-enough D (s .pre .1))
 
 pub kept-inverses-spec : {M : Type 1} → statement M
 kept-inverses-spec =

@@ -4,7 +4,7 @@ use Prim.Native.Nat.{ℕ, _*_, _%_}
 use lib.ListN.{length, take}
 use Rattle.modular.specs.Arithmetic.{mul}
 use Rattle.modular.specs.Congruence.{_≈⟨_⟩_}
-use Rattle.modular.specs.Goldilocks.{p}
+use Rattle.fields.specs.Prime.{prime}
 use Rattle.modular.proofs.Congruence.{refl≈, trans≈, eq≈, mod≈, mul≈}
 use Rattle.poseidon2.specs.Layers.{dot}
 use Rattle.inversion.specs.Kept.{uninternalBy}
@@ -25,10 +25,10 @@ returns c =
     let a = u .before .before .before .before .args in
     let ys = a .state .now in
     let es = take (length ys) (a .inverses .now) in
-    let same : u .product .result ≈⟨ p ⟩ dot es ys * a .total-inverse =
-    trans≈ (eq≈ (u .product .ensures ∙ ap (λ (n : ℕ). n * a .total-inverse % p) (u .before .weighted-sum .ensures)))
-    (trans≈ (mod≈ (dot es ys % p * a .total-inverse)) (mul≈ (mod≈ (dot es ys)) (refl≈ {a = a .total-inverse}))) in
-    c .before .before .multiples-less .ensures ∙ sym (multiplesLess-take p (u .product .result) (a .inverses .now) ys) ∙ multiplesLess-same p same es ys
+    let same : u .product .result ≈⟨ prime ⟩ dot es ys * a .total-inverse =
+    trans≈ (eq≈ (u .product .ensures ∙ ap (λ (n : ℕ). n * a .total-inverse % prime) (u .before .weighted-sum .ensures)))
+    (trans≈ (mod≈ (dot es ys % prime * a .total-inverse)) (mul≈ (mod≈ (dot es ys)) (refl≈ {a = a .total-inverse}))) in
+    c .before .before .multiples-less .ensures ∙ sym (multiplesLess-take prime (u .product .result) (a .inverses .now) ys) ∙ multiplesLess-same prime same es ys
 
 pub uninternal-spec : {M : Type 1} → statement M
 uninternal-spec = tie.close (tie.spec (λ c. search needs) (λ c. search needs) multiples-less-requires (λ c. search needs) returns)

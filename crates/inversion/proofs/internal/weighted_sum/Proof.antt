@@ -4,16 +4,17 @@ use Prim.Native.Nat.{ℕ, _-_, _%_, _≤_}
 use native.Mathlib.Omega.{arith}
 use lib.ListN.{length, take}
 use Rattle.modular.specs.Arithmetic.{add}
-use Rattle.modular.specs.Goldilocks.{p}
+use Rattle.fields.specs.Prime.{prime}
 use Rattle.poseidon2.specs.Layers.{dot}
 use Rattle.poseidon2.proofs.Words.{below}
-use Rattle.inversion.proofs.Words.{positive, mul-word}
+use Rattle.fields.proofs.Prime.{positive}
+use Rattle.inversion.proofs.Words.{mul-word}
 use Rattle.inversion.proofs.Sums.{dot-more}
 use Rattle.inversion.proofs.internal.weighted_sum.Statement.{statement}
 use Rattle.inversion.proofs.internal.weighted_sum.Tie as tie
 
 abbrev Inv-loop : tie.InvT-loop
-Inv-loop inverses state total₀ i₀ total i = (i ≤ length state) × (total ≡ dot (take i inverses) state % p)
+Inv-loop inverses state total₀ i₀ total i = (i ≤ length state) × (total ≡ dot (take i inverses) state % prime)
 
 abbrev μ-loop : tie.MeasureT-loop
 μ-loop inverses state total₀ i₀ total i = length state - i
@@ -29,13 +30,13 @@ loop-again : tie.Need-loop-again Inv-loop μ-loop
 loop-again c =
     let l = c .before .before .before .before .before in
     let a = l .before .before .args in
-    (omega arith, c .sum .ensures ∙ ap (add p (l .loop .total)) (c .before .product .ensures) ∙ dot-more p (l .loop .i) (l .loop .total) (a .inverses .now) (a .state .now) (l .loop .inv .1))
+    (omega arith, c .sum .ensures ∙ ap (add prime (l .loop .total)) (c .before .product .ensures) ∙ dot-more prime (l .loop .i) (l .loop .total) (a .inverses .now) (a .state .now) (l .loop .inv .1))
 
 returns : tie.Need-returns Inv-loop μ-loop
 returns c =
     let a = c .before .before .before .args in
     let e : c .before .loop .i ≡ length (a .state .now) = omega arith in
-    c .before .loop .inv .1 ∙ ap (λ (n : ℕ). dot (take n (a .inverses .now)) (a .state .now) % p) e
+    c .before .loop .inv .1 ∙ ap (λ (n : ℕ). dot (take n (a .inverses .now)) (a .state .now) % prime) e
 
 pub weighted-sum-spec : {M : Type 1} → statement M
 weighted-sum-spec =

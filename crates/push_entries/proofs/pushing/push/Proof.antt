@@ -42,7 +42,6 @@ use denote.Triple.Clauses.{ensured, lasts}
 use denote.Triple.Table.{entered, cited}
 use denote.Triple.Walked.{says, Stays, stay-none-slice, stay-slice, stay-dropped, walkOf, Walks, ends-at, walked, goes-none-slice, goes-slice, goes-dropped, walk-meets}
 use denote.Exit.{yes as kept}
-use Rattle.modular.specs.Goldilocks.{p}
 use Rattle.parameters.specs.declared.ParameterSet.{ParameterSet}
 use Rattle.parameters.proofs.ParameterSet as P
 use Rattle.parameters.proofs.ParameterSet.Laws as P′
@@ -106,8 +105,8 @@ module _ {M : Type 1} (𝓤 : URA M) (H : Heap 𝓤) (A : Atoms 𝓤) (mem : Mem
 
   -- what `begin` and `finish` ensure is of their result alone
   begin-said : (κ : Lft) (s : ParameterSet) (x : RefT (List ℕ)) (n : ℕ) (r : Tally)
-      → ent 𝓤 (ensured 𝓤 H A begin.ended (begin.clauses 𝓤 H A mem run) (κ, tt) (s, (x, (n, tt))) tt r) (fact 𝓤 (r ≡ beginOf p s (now x) n))
-  begin-said κ s x n r = exE 𝓤 _ (λ ends. snd∗ 𝓤 (sem 𝓤 H A (lasts begin.ended (κ, tt) (s, (x, (n, tt))) ends)) (fact 𝓤 (r ≡ beginOf p s (now x) n)))
+      → ent 𝓤 (ensured 𝓤 H A begin.ended (begin.clauses 𝓤 H A mem run) (κ, tt) (s, (x, (n, tt))) tt r) (fact 𝓤 (r ≡ beginOf s (now x) n))
+  begin-said κ s x n r = exE 𝓤 _ (λ ends. snd∗ 𝓤 (sem 𝓤 H A (lasts begin.ended (κ, tt) (s, (x, (n, tt))) ends)) (fact 𝓤 (r ≡ beginOf s (now x) n)))
 
   finish-said : (t : Tally) (r : Changed) → ent 𝓤 (ensured 𝓤 H A finish.ended (finish.clauses 𝓤 H A mem run) tt (t, tt) tt r) (fact 𝓤 (r ≡ finishOf t))
   finish-said t r = exE 𝓤 _ (λ ends. snd∗ 𝓤 (sem 𝓤 H A (lasts finish.ended tt (t, tt) ends)) (fact 𝓤 (r ≡ finishOf t)))
@@ -150,7 +149,7 @@ module _ {M : Type 1} (𝓤 : URA M) (H : Heap 𝓤) (A : Atoms 𝓤) (W : Given
   abbrev Records : Fml
   Records = ShrSlice (named 1) κ′ R .own rs (rv ∷ [])
 
-  exits : (r : Changed) (w : Val) (zs : List ℕ) → length zs ≡ length xs → (changedReply r ≡ pushReply p s xs ys) × (zs ≡ pushed p s xs ys)
+  exits : (r : Changed) (w : Val) (zs : List ℕ) → length zs ≡ length xs → (changedReply r ≡ pushReply s xs ys) × (zs ≡ pushed s xs ys)
       → ent 𝓤 (⋆ 𝓤 H A (‵ (Store zs xs) ∷ ‵ (flft κ q) ∷ ‵ Records ∷ ‵ (flft κ′ q′) ∷ ‵ (S.the-row .own r (w ∷ [])) ∷ [])) (Post w)
   exits r w zs same e =
       qed W (‵ (Store zs xs) ∷ ‵ (flft κ q) ∷ ‵ Records ∷ ‵ (flft κ′ q′) ∷ ‵ (S.the-row .own r (w ∷ [])) ∷ []) ∵
@@ -172,7 +171,7 @@ module _ {M : Type 1} (𝓤 : URA M) (H : Heap 𝓤) (A : Atoms 𝓤) (W : Given
   abbrev to-each : ℕ → GName → ℕ → Tally → List ℕ → Each 𝓤 H A at-mem run .Ghost
   to-each ν δ phase t zs = (((ν ∷ [], (κ′, tt)), (fullShare, (q′, tt)), tt, (s, (st δ zs, (rs, (phase, (t, tt))))), (pv s ∷ [], (sv zs ∷ [], (rv ∷ [], (vint w64 phase ∷ [], (tv t ∷ [], tt)))))), tt)
 
-  goes-each : (ν : ℕ) (δ : GName) (phase : ℕ) → phase < 2 ^ 64 → (t : Tally) (zs : List ℕ) → Going p s zs t (length ys) → Is Y.the-row t (tv t ∷ [])
+  goes-each : (ν : ℕ) (δ : GName) (phase : ℕ) → phase < 2 ^ 64 → (t : Tally) (zs : List ℕ) → Going s zs t (length ys) → Is Y.the-row t (tv t ∷ [])
       → ent 𝓤 (⋆ 𝓤 H A ((‵ (flft (ν ∷ []) fullShare) ⊛ ‵ (flft κ′ q′)) ∷ ‵ (MutSlice (named 0) (ν ∷ []) u64 .own (st δ zs) (sv zs ∷ [])) ∷ ‵ Records ∷ [])) (Each 𝓤 H A at-mem run .pre (to-each ν δ phase t zs))
   goes-each ν δ phase fits t zs asked is =
       qed W ((‵ (flft (ν ∷ []) fullShare) ⊛ ‵ (flft κ′ q′)) ∷ ‵ (MutSlice (named 0) (ν ∷ []) u64 .own (st δ zs) (sv zs ∷ [])) ∷ ‵ Records ∷ []) ∵
@@ -215,7 +214,7 @@ module _ {M : Type 1} (𝓤 : URA M) (H : Heap 𝓤) (A : Atoms 𝓤) (W : Given
       After-writes t₁ t₂ t₃ zs ws = ‵ Records ∷ ‵ (flft κ′ q′) ∷ ‵ (flft κ q) ∷ ‵ (Store zs zs) ∷ ‵ (fat fullShare (storeTy erased) l₁₃ 0 (sv ws)) ∷ ‵ (fdies (storeTy erased) l₁₃) ∷ ‵ (fat fullShare (tyRef erased mut word) l₁₂ 0 (vptr b o)) ∷ ‵ (fdies (tyRef erased mut word) l₁₂) ∷ ‵ (fat fullShare (storeTy erased) l₁₁ 0 (sv xs)) ∷ ‵ (fdies (storeTy erased) l₁₁) ∷ ‵ (fat fullShare (tyRef erased mut word) l₁₀ 0 (vptr b o)) ∷ ‵ (fdies (tyRef erased mut word) l₁₀) ∷ ‵ (fat fullShare word l₉ 0 (vint w64 (length ys))) ∷ ‵ (fdies word l₉) ∷ ‵ (fat fullShare (sliceTy (tyRef erased imm word)) l₈ 0 (sv xs)) ∷ ‵ (fdies (sliceTy (tyRef erased imm word)) l₈) ∷ ‵ (fat fullShare (tyRef erased imm word) l₇ 0 (vptr b o)) ∷ ‵ (fdies (tyRef erased imm word) l₇) ∷ ‵ (fat fullShare Y′.mir l₆ 0 (tv t₃)) ∷ ‵ (fdies Y′.mir l₆) ∷ ‵ (fat fullShare Y′.mir l₅ 0 (tv t₂)) ∷ ‵ (fdies Y′.mir l₅) ∷ ‵ (fat fullShare Y′.mir l₄ 0 (tv t₁)) ∷ ‵ (fdies Y′.mir l₄) ∷ ‵ (fat fullShare recordsTy l₃ 0 rv) ∷ ‵ (fdies recordsTy l₃) ∷ ‵ (fat fullShare (storeTy (named 0)) l₂ 0 (sv zs)) ∷ ‵ (fdies (storeTy (named 0)) l₂) ∷ ‵ (fat fullShare P′.mir l₁ 0 (pv s)) ∷ ‵ (fdies P′.mir l₁) ∷ ‵ (froom S′.mir l₀ 0) ∷ ‵ (fdies S′.mir l₀) ∷ []
 
       rest-11 : (t₁ t₂ t₃ : Tally) (zs ws : List ℕ) → length zs ≡ length xs → Is Y.the-row t₃ (tv t₃ ∷ [])
-          → t₃ ≡ eachOf p s 1 ys (eachOf p s 0 ys (begins s xs ys)) .tally → zs ≡ eachOf p s 1 ys (eachOf p s 0 ys (begins s xs ys)) .store
+          → t₃ ≡ eachOf s 1 ys (eachOf s 0 ys (begins s xs ys)) .tally → zs ≡ eachOf s 1 ys (eachOf s 0 ys (begins s xs ys)) .store
           → ent 𝓤 (⋆ 𝓤 H A (After-writes t₁ t₂ t₃ zs ws)) (Goal mirs.t-11)
       rest-11 t₁ t₂ t₃ zs ws same is₃ e₃ f₃ =
           qed W (After-writes t₁ t₂ t₃ zs ws) ∵ exec ! C Λ En mirs.t-11 (atRet En Post) $
@@ -231,7 +230,7 @@ module _ {M : Type 1} (𝓤 : URA M) (H : Heap 𝓤) (A : Atoms 𝓤) (W : Given
           keep ! (5 ∷ 4 ∷ 2 ∷ 3 ∷ 0 ∷ []) $ by ! (exits r w zs same (ap changedReply (e ∙ ap finishOf e₃) ∙ pushes s xs ys .0, f₃ ∙ pushes s xs ys .1))))))
 
       rest-8 : (t₁ t₂ : Tally) (zs : List ℕ) → length zs ≡ length xs → Is Y.the-row t₂ (tv t₂ ∷ [])
-          → t₂ ≡ eachOf p s 0 ys (begins s xs ys) .tally → zs ≡ eachOf p s 0 ys (begins s xs ys) .store → ent 𝓤 (⋆ 𝓤 H A (After-tests t₁ t₂ zs)) (Goal mirs.t-8)
+          → t₂ ≡ eachOf s 0 ys (begins s xs ys) .tally → zs ≡ eachOf s 0 ys (begins s xs ys) .store → ent 𝓤 (⋆ 𝓤 H A (After-tests t₁ t₂ zs)) (Goal mirs.t-8)
       rest-8 t₁ t₂ zs same is₂ e₂ f₂ =
           qed W (After-tests t₁ t₂ zs) ∵ exec ! C Λ En mirs.t-8 (atRet En Post) $
           assigns ! (addr ! (from ! (fld ! refl (hop ! (look-in ! 26 (sub ! 0 refl (whole !))) (stop !))))) (from ! (stop !)) (init ! 6 refl (tt, tt)) $
@@ -242,8 +241,8 @@ module _ {M : Type 1} (𝓤 : URA M) (H : Heap 𝓤) (A : Atoms 𝓤) (W : Given
           move ! (2 ∷ 5 ∷ 0 ∷ 3 ∷ []) $ join ! $ use3 W (raw (Each 𝓤 H A at-mem run .pre (to-each ν δ 1 t₂ zs))) (goes-each ν δ 1 (lit< tt) t₂ zs (second-asks s xs ys (room′ .1) t₂ zs e₂ f₂) is₂) $
           calls-at ! fm (Each 𝓤 H A at-mem run) known-each (to-each ν δ 1 t₂ zs) (and-then ! (load ! (from ! (stop !)) (look ! 27 refl)) (and-then ! (load ! (from ! (stop !)) (look ! 3 refl)) (and-then ! (load ! (from ! (stop !)) (look ! 23 refl)) (and-then ! (lit ! tt) (and-then ! (load ! (from ! (stop !)) (look ! 19 refl)) (no-more !)))))) (λ w.
           use1 W (later (some (λ (r : Tally). ((‵ (flft (ν ∷ []) fullShare) ⊛ ‵ (flft κ′ q′) ⊛ ‵ ftrue) ⊛ ‵ (Y.the-row .own r (w ∷ []))) ⊛ raw (ensured 𝓤 H A each.ended (each.clauses 𝓤 H A at-mem run) (ν ∷ [], (κ′, tt)) (s, (st δ zs, (rs, (1, (t₂, tt))))) tt r)))) (id⊢ 𝓤 _) $ await ! tt $ pick ! (λ r.
-          split ! $ move ! (1 ∷ []) $ use1 W (some (λ (ends : Unit {0} × (List ℕ × (Unit {0} × (Unit {0} × (Unit {0} × Unit {0}))))). ‵ (lasts each.ended (ν ∷ [], (κ′, tt)) (s, (st δ zs, (rs, (1, (t₂, tt))))) ends) ⊛ raw (fact 𝓤 ((r ≡ eachOf p s 1 ys (pass t₂ zs) .tally) × (ends .1 .0 ≡ eachOf p s 1 ys (pass t₂ zs) .store))))) (id⊢ 𝓤 _) $ pick ! (λ ends.
-          split ! $ move ! (1 ∷ []) $ heard ! ((r ≡ eachOf p s 1 ys (pass t₂ zs) .tally) × (ends .1 .0 ≡ eachOf p s 1 ys (pass t₂ zs) .store)) (λ e. fsplit ! $ drop ! $ fsplit ! $ fsplit ! $ move ! (1 ∷ []) $ feqL ! (λ long.
+          split ! $ move ! (1 ∷ []) $ use1 W (some (λ (ends : Unit {0} × (List ℕ × (Unit {0} × (Unit {0} × (Unit {0} × Unit {0}))))). ‵ (lasts each.ended (ν ∷ [], (κ′, tt)) (s, (st δ zs, (rs, (1, (t₂, tt))))) ends) ⊛ raw (fact 𝓤 ((r ≡ eachOf s 1 ys (pass t₂ zs) .tally) × (ends .1 .0 ≡ eachOf s 1 ys (pass t₂ zs) .store))))) (id⊢ 𝓤 _) $ pick ! (λ ends.
+          split ! $ move ! (1 ∷ []) $ heard ! ((r ≡ eachOf s 1 ys (pass t₂ zs) .tally) × (ends .1 .0 ≡ eachOf s 1 ys (pass t₂ zs) .store)) (λ e. fsplit ! $ drop ! $ fsplit ! $ fsplit ! $ move ! (1 ∷ []) $ feqL ! (λ long.
           move ! (2 ∷ []) $ split ! $ move ! (1 ∷ []) $ peeks ! Y.the-row (Is Y.the-row) (shows 𝓤 H A Y.the-row) r (w ∷ []) (λ is.
           land ! (from ! (stop !)) (init ! 20 refl (LL.lawful Y.the-type Y′.the-laws 𝓤 H A W .typed r _ is .0)) $ rewrite ! 20 (λ (u : Val). ‵ (fat fullShare Y′.mir l₆ 0 u)) (ap only (LL.tells Y.the-type Y′.the-laws r _ is)) refl $
           -- ν ends, and the store is back
@@ -251,9 +250,9 @@ module _ {M : Type 1} (𝓤 : URA M) (H : Heap 𝓤) (A : Atoms 𝓤) (W : Given
           use3 W (later (‵ (Store (ends .1 .0) zs) ⊛ ‵ (flft κ q))) (mut-back u64 κ (ν ∷ []) q γ b o 𝓤 H A W (named 0) (named 0) zs δ (ends .1 .0) long) $ await ! tt $ split ! $ move ! (2 ∷ []) $ split ! $
           rewrite ! 2 (λ (n : ℕ). ‵ (MutSlice (named 0) κ u64 .own (st γ (ends .1 .0)) (sliceVal (b, o) n ∷ []))) (sym long) refl $
           rewrite ! 29 (λ (n : ℕ). ‵ (fat fullShare (storeTy (named 0)) l₂ 0 (sliceVal (b, o) n))) (sym long) refl $
-          keep ! (6 ∷ 0 ∷ 3 ∷ 2 ∷ 7 ∷ 8 ∷ 9 ∷ 10 ∷ 11 ∷ 12 ∷ 13 ∷ 14 ∷ 15 ∷ 16 ∷ 17 ∷ 18 ∷ 19 ∷ 20 ∷ 21 ∷ 22 ∷ 23 ∷ 24 ∷ 25 ∷ 26 ∷ 27 ∷ 28 ∷ 29 ∷ 30 ∷ 31 ∷ 32 ∷ 33 ∷ 34 ∷ []) $ by ! (rest-11 t₁ t₂ r (ends .1 .0) zs (long ∙ same) (subst (Is Y.the-row r) (LL.tells Y.the-type Y′.the-laws r _ is) is) (e .0 ∙ (λ j. eachOf p s 1 ys (pass (e₂ j) (f₂ j)) .tally)) (e .1 ∙ (λ j. eachOf p s 1 ys (pass (e₂ j) (f₂ j)) .store)))))))))))
+          keep ! (6 ∷ 0 ∷ 3 ∷ 2 ∷ 7 ∷ 8 ∷ 9 ∷ 10 ∷ 11 ∷ 12 ∷ 13 ∷ 14 ∷ 15 ∷ 16 ∷ 17 ∷ 18 ∷ 19 ∷ 20 ∷ 21 ∷ 22 ∷ 23 ∷ 24 ∷ 25 ∷ 26 ∷ 27 ∷ 28 ∷ 29 ∷ 30 ∷ 31 ∷ 32 ∷ 33 ∷ 34 ∷ []) $ by ! (rest-11 t₁ t₂ r (ends .1 .0) zs (long ∙ same) (subst (Is Y.the-row r) (LL.tells Y.the-type Y′.the-laws r _ is) is) (e .0 ∙ (λ j. eachOf s 1 ys (pass (e₂ j) (f₂ j)) .tally)) (e .1 ∙ (λ j. eachOf s 1 ys (pass (e₂ j) (f₂ j)) .store)))))))))))
 
-      rest-5 : (t₁ : Tally) → t₁ ≡ beginOf p s xs (length ys) → Is Y.the-row t₁ (tv t₁ ∷ []) → ent 𝓤 (⋆ 𝓤 H A (After-begin t₁)) (Goal mirs.t-5)
+      rest-5 : (t₁ : Tally) → t₁ ≡ beginOf s xs (length ys) → Is Y.the-row t₁ (tv t₁ ∷ []) → ent 𝓤 (⋆ 𝓤 H A (After-begin t₁)) (Goal mirs.t-5)
       rest-5 t₁ e₁ is₁ =
           qed W (After-begin t₁) ∵ exec ! C Λ En mirs.t-5 (atRet En Post) $
           assigns ! (addr ! (from ! (fld ! refl (hop ! (look-in ! 26 (sub ! 0 refl (whole !))) (stop !))))) (from ! (stop !)) (init ! 10 refl (tt, tt)) $
@@ -261,11 +260,11 @@ module _ {M : Type 1} (𝓤 : URA M) (H : Heap 𝓤) (A : Atoms 𝓤) (W : Given
           use1 W (‵ Records ⊛ ‵ Records) (shr-slice-copy 𝓤 H A W (named 1) κ′ R .twice rs (rv ∷ [])) $ split ! $
           lft-new ! tt (λ ν. move ! (5 ∷ 4 ∷ []) $
           use2 W (later (some (λ (δ : GName). ‵ (MutSlice (named 0) (ν ∷ []) u64 .own (st δ xs) (sv xs ∷ [])) ⊛ ‵ (LentMut u64 κ (ν ∷ []) q γ b o δ xs)))) (lends-mut u64 κ (ν ∷ []) q γ b o 𝓤 H A W (named 0) (named 0) xs) $ await ! tt $ pick ! (λ δ. split ! $
-          move ! (2 ∷ 5 ∷ 0 ∷ 3 ∷ []) $ join ! $ use3 W (raw (Each 𝓤 H A at-mem run .pre (to-each ν δ 0 t₁ xs))) (goes-each ν δ 0 (lit< tt) t₁ xs (subst (λ (u : Tally). Going p s xs u (length ys)) (sym e₁) (first-asks s xs ys (room′ .1))) is₁) $
+          move ! (2 ∷ 5 ∷ 0 ∷ 3 ∷ []) $ join ! $ use3 W (raw (Each 𝓤 H A at-mem run .pre (to-each ν δ 0 t₁ xs))) (goes-each ν δ 0 (lit< tt) t₁ xs (subst (λ (u : Tally). Going s xs u (length ys)) (sym e₁) (first-asks s xs ys (room′ .1))) is₁) $
           calls-at ! fm (Each 𝓤 H A at-mem run) known-each (to-each ν δ 0 t₁ xs) (and-then ! (load ! (from ! (stop !)) (look ! 27 refl)) (and-then ! (load ! (from ! (stop !)) (look ! 7 refl)) (and-then ! (load ! (from ! (stop !)) (look ! 23 refl)) (and-then ! (lit ! tt) (and-then ! (load ! (from ! (stop !)) (look ! 21 refl)) (no-more !)))))) (λ w.
           use1 W (later (some (λ (r : Tally). ((‵ (flft (ν ∷ []) fullShare) ⊛ ‵ (flft κ′ q′) ⊛ ‵ ftrue) ⊛ ‵ (Y.the-row .own r (w ∷ []))) ⊛ raw (ensured 𝓤 H A each.ended (each.clauses 𝓤 H A at-mem run) (ν ∷ [], (κ′, tt)) (s, (st δ xs, (rs, (0, (t₁, tt))))) tt r)))) (id⊢ 𝓤 _) $ await ! tt $ pick ! (λ r.
-          split ! $ move ! (1 ∷ []) $ use1 W (some (λ (ends : Unit {0} × (List ℕ × (Unit {0} × (Unit {0} × (Unit {0} × Unit {0}))))). ‵ (lasts each.ended (ν ∷ [], (κ′, tt)) (s, (st δ xs, (rs, (0, (t₁, tt))))) ends) ⊛ raw (fact 𝓤 ((r ≡ eachOf p s 0 ys (pass t₁ xs) .tally) × (ends .1 .0 ≡ eachOf p s 0 ys (pass t₁ xs) .store))))) (id⊢ 𝓤 _) $ pick ! (λ ends.
-          split ! $ move ! (1 ∷ []) $ heard ! ((r ≡ eachOf p s 0 ys (pass t₁ xs) .tally) × (ends .1 .0 ≡ eachOf p s 0 ys (pass t₁ xs) .store)) (λ e. fsplit ! $ drop ! $ fsplit ! $ fsplit ! $ move ! (1 ∷ []) $ feqL ! (λ long.
+          split ! $ move ! (1 ∷ []) $ use1 W (some (λ (ends : Unit {0} × (List ℕ × (Unit {0} × (Unit {0} × (Unit {0} × Unit {0}))))). ‵ (lasts each.ended (ν ∷ [], (κ′, tt)) (s, (st δ xs, (rs, (0, (t₁, tt))))) ends) ⊛ raw (fact 𝓤 ((r ≡ eachOf s 0 ys (pass t₁ xs) .tally) × (ends .1 .0 ≡ eachOf s 0 ys (pass t₁ xs) .store))))) (id⊢ 𝓤 _) $ pick ! (λ ends.
+          split ! $ move ! (1 ∷ []) $ heard ! ((r ≡ eachOf s 0 ys (pass t₁ xs) .tally) × (ends .1 .0 ≡ eachOf s 0 ys (pass t₁ xs) .store)) (λ e. fsplit ! $ drop ! $ fsplit ! $ fsplit ! $ move ! (1 ∷ []) $ feqL ! (λ long.
           move ! (2 ∷ []) $ split ! $ move ! (1 ∷ []) $ peeks ! Y.the-row (Is Y.the-row) (shows 𝓤 H A Y.the-row) r (w ∷ []) (λ is.
           land ! (from ! (stop !)) (init ! 22 refl (LL.lawful Y.the-type Y′.the-laws 𝓤 H A W .typed r _ is .0)) $ rewrite ! 22 (λ (u : Val). ‵ (fat fullShare Y′.mir l₅ 0 u)) (ap only (LL.tells Y.the-type Y′.the-laws r _ is)) refl $
           -- ν ends, and the store is back
@@ -273,7 +272,7 @@ module _ {M : Type 1} (𝓤 : URA M) (H : Heap 𝓤) (A : Atoms 𝓤) (W : Given
           use3 W (later (‵ (Store (ends .1 .0) xs) ⊛ ‵ (flft κ q))) (mut-back u64 κ (ν ∷ []) q γ b o 𝓤 H A W (named 0) (named 0) xs δ (ends .1 .0) long) $ await ! tt $ split ! $ move ! (2 ∷ []) $ split ! $
           rewrite ! 2 (λ (n : ℕ). ‵ (MutSlice (named 0) κ u64 .own (st γ (ends .1 .0)) (sliceVal (b, o) n ∷ []))) (sym long) refl $
           rewrite ! 29 (λ (n : ℕ). ‵ (fat fullShare (storeTy (named 0)) l₂ 0 (sliceVal (b, o) n))) (sym long) refl $
-          keep ! (6 ∷ 0 ∷ 3 ∷ 2 ∷ 7 ∷ 8 ∷ 9 ∷ 10 ∷ 11 ∷ 12 ∷ 13 ∷ 14 ∷ 15 ∷ 16 ∷ 17 ∷ 18 ∷ 19 ∷ 20 ∷ 21 ∷ 22 ∷ 23 ∷ 24 ∷ 25 ∷ 26 ∷ 27 ∷ 28 ∷ 29 ∷ 30 ∷ 31 ∷ 32 ∷ 33 ∷ 34 ∷ []) $ by ! (rest-8 t₁ r (ends .1 .0) long (subst (Is Y.the-row r) (LL.tells Y.the-type Y′.the-laws r _ is) is) (e .0 ∙ ap (λ (u : Tally). eachOf p s 0 ys (pass u xs) .tally) e₁) (e .1 ∙ ap (λ (u : Tally). eachOf p s 0 ys (pass u xs) .store) e₁))))))))))
+          keep ! (6 ∷ 0 ∷ 3 ∷ 2 ∷ 7 ∷ 8 ∷ 9 ∷ 10 ∷ 11 ∷ 12 ∷ 13 ∷ 14 ∷ 15 ∷ 16 ∷ 17 ∷ 18 ∷ 19 ∷ 20 ∷ 21 ∷ 22 ∷ 23 ∷ 24 ∷ 25 ∷ 26 ∷ 27 ∷ 28 ∷ 29 ∷ 30 ∷ 31 ∷ 32 ∷ 33 ∷ 34 ∷ []) $ by ! (rest-8 t₁ r (ends .1 .0) long (subst (Is Y.the-row r) (LL.tells Y.the-type Y′.the-laws r _ is) is) (e .0 ∙ ap (λ (u : Tally). eachOf s 0 ys (pass u xs) .tally) e₁) (e .1 ∙ ap (λ (u : Tally). eachOf s 0 ys (pass u xs) .store) e₁))))))))))
 
       abbrev Entered : List (Item 𝓤)
       Entered = ‵ (froom (storeTy erased) l₁₃ 0) ∷ ‵ (fdies (storeTy erased) l₁₃) ∷ ‵ (froom (tyRef erased mut word) l₁₂ 0) ∷ ‵ (fdies (tyRef erased mut word) l₁₂) ∷ ‵ (froom (storeTy erased) l₁₁ 0) ∷ ‵ (fdies (storeTy erased) l₁₁) ∷ ‵ (froom (tyRef erased mut word) l₁₀ 0) ∷ ‵ (fdies (tyRef erased mut word) l₁₀) ∷ ‵ (froom word l₉ 0) ∷ ‵ (fdies word l₉) ∷ ‵ (froom (sliceTy (tyRef erased imm word)) l₈ 0) ∷ ‵ (fdies (sliceTy (tyRef erased imm word)) l₈) ∷ ‵ (froom (tyRef erased imm word) l₇ 0) ∷ ‵ (fdies (tyRef erased imm word) l₇) ∷ ‵ (froom Y′.mir l₆ 0) ∷ ‵ (fdies Y′.mir l₆) ∷ ‵ (froom Y′.mir l₅ 0) ∷ ‵ (fdies Y′.mir l₅) ∷ ‵ (froom Y′.mir l₄ 0) ∷ ‵ (fdies Y′.mir l₄) ∷ ‵ (fat fullShare recordsTy l₃ 0 rv) ∷ ‵ (fdies recordsTy l₃) ∷ ‵ (fat fullShare (storeTy (named 0)) l₂ 0 (sv xs)) ∷ ‵ (fdies (storeTy (named 0)) l₂) ∷ ‵ (fat fullShare P′.mir l₁ 0 (pv s)) ∷ ‵ (fdies P′.mir l₁) ∷ ‵ (froom S′.mir l₀ 0) ∷ ‵ (fdies S′.mir l₀) ∷ raw OnEntry ∷ []
@@ -291,7 +290,7 @@ module _ {M : Type 1} (𝓤 : URA M) (H : Heap 𝓤) (A : Atoms 𝓤) (W : Given
           move ! (2 ∷ 0 ∷ []) $ use2 W (raw (Begin 𝓤 H A at-mem run .pre (to-begin ν δ))) (goes-begin ν δ) $
           calls-at ! fm (Begin 𝓤 H A at-mem run) known-begin (to-begin ν δ) (and-then ! (load ! (from ! (stop !)) (look ! 28 refl)) (and-then ! (load ! (from ! (stop !)) (look ! 14 refl)) (and-then ! (load ! (from ! (stop !)) (look ! 12 refl)) (no-more !)))) (λ w.
           use1 W (later (some (λ (r : Tally). ((‵ (flft (ν ∷ []) fullShare) ⊛ ‵ ftrue) ⊛ ‵ (Y.the-row .own r (w ∷ []))) ⊛ raw (ensured 𝓤 H A begin.ended (begin.clauses 𝓤 H A at-mem run) (ν ∷ [], tt) (s, (st δ xs, (length ys, tt))) tt r)))) (id⊢ 𝓤 _) $ await ! tt $ pick ! (λ r.
-          split ! $ move ! (1 ∷ []) $ use1 W (raw (fact 𝓤 (r ≡ beginOf p s xs (length ys)))) (begin-said 𝓤 H A at-mem run (ν ∷ []) s (st δ xs) (length ys) r) $ heard ! (r ≡ beginOf p s xs (length ys)) (λ e. split ! $ move ! (1 ∷ []) $
+          split ! $ move ! (1 ∷ []) $ use1 W (raw (fact 𝓤 (r ≡ beginOf s xs (length ys)))) (begin-said 𝓤 H A at-mem run (ν ∷ []) s (st δ xs) (length ys) r) $ heard ! (r ≡ beginOf s xs (length ys)) (λ e. split ! $ move ! (1 ∷ []) $
           peeks ! Y.the-row (Is Y.the-row) (shows 𝓤 H A Y.the-row) r (w ∷ []) (λ is.
           land ! (from ! (stop !)) (init ! 23 refl (LL.lawful Y.the-type Y′.the-laws 𝓤 H A W .typed r _ is .0)) $ rewrite ! 23 (λ (u : Val). ‵ (fat fullShare Y′.mir l₄ 0 u)) (ap only (LL.tells Y.the-type Y′.the-laws r _ is)) refl $
           drop ! $ split ! $ lft-end ! tt $ move ! (0 ∷ 2 ∷ []) $

@@ -3,7 +3,6 @@ use mathlib.Core.Path.{sym, subst, _∙_}
 use Prim.Native.Nat.{_-_, _/_, _<_}
 use native.Mathlib.Omega.{arith}
 use lib.ListN.{length}
-use Rattle.modular.specs.Goldilocks.{p}
 use Rattle.pushes.specs.Passes.{Going}
 use Rattle.pushes.proofs.Turns.{blank, Reached, reached-none, step-asks, reached-next, reached-all}
 use Rattle.pushes.specs.Listed.{listed}
@@ -21,7 +20,7 @@ loop-holds : tie.Need-loop-holds Inv-loop μ-loop
 loop-holds c =
     let i = c .before .before in
     let a = i .args in
-    reached-none _ _ _ _ _ (subst (Going p (a .set) (a .store .now) (a .tally)) (sym (listed-count (a .numbers .now))) (i .pre))
+    reached-none _ _ _ _ _ (subst (Going (a .set) (a .store .now) (a .tally)) (sym (listed-count (a .numbers .now))) (i .pre))
 
 record-at-requires : tie.Need-record-at-requires Inv-loop μ-loop
 record-at-requires c κs = omega (arith, c .loop-test .taken)

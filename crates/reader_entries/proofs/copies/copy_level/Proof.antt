@@ -4,8 +4,7 @@ use Prim.Native.Nat.{ℕ}
 use native.Mathlib.Omega.{arith}
 use lib.ListN.{length}
 use borrow.Author.Needs.{needs}
-use Rattle.modular.specs.Goldilocks.{p}
-use Rattle.refusals.proofs.Table.{refused-equations, done-equations}
+use Rattle.refusals.proofs.Table.{refused-equations, done-equations, left-as}
 use Rattle.state_entries.specs.Permutation.{outcomeReply}
 use Rattle.reader_entries.specs.Copies.{copyRefusals, copyReply, copied}
 use Rattle.reader_entries.proofs.Copying.{Passed, numbered, passed-refusals, part-long, whole-copy}
@@ -20,7 +19,7 @@ same-length c = search needs
 
 returns : tie.Need-returns
 unfolding outcomeReply copyReply copied
-returns c = refused-equations (copyRefusals p _ _ _ _) [] _ _ _ (c .before .refusal-of-copy .ensures) (c .if1 .taken)
+returns c = refused-equations (copyRefusals _ _ _ _) [] _ _ _ (c .before .refusal-of-copy .ensures) (c .if1 .taken)
 
 passes : (c : tie.Else1) → Passed (c .before .before .before .before .before .args .set) (c .before .before .before .before .before .args .siblings .now) (c .before .before .before .before .before .args .level) (c .before .before .before .before .before .args .buffer .now)
 passes c = passed-refusals _ _ _ _ (sym (c .before .refusal-of-copy .ensures) ∙ c .if1 .left)
@@ -38,10 +37,6 @@ copy-words-requires c κs = (omega arith, omega (arith, words-long (c .before)))
 same-length-2 : tie.Need-same-length-2
 same-length-2 c = search needs
 
--- a reply's equations, with what the buffer holds for what they say of it
-left-as : {A : Type 0} {xs ys zs : List ℕ} → A × (ys ≡ zs) → xs ≡ ys → A × (xs ≡ zs)
-left-as e f = (e .0, f ∙ e .1)
-
 abbrev worded : tie.After-slice-known2 → tie.After-level-words
 worded c = c .before .before .before .before
 
@@ -49,7 +44,7 @@ returns-2 : tie.Need-returns-2
 unfolding outcomeReply copyReply copied
 returns-2 c =
     left-as
-    (done-equations (copyRefusals p _ _ _ _) [] _ _ (numbered _ _ _ _)
+    (done-equations (copyRefusals _ _ _ _) [] _ _ (numbered _ _ _ _)
     (sym (worded c .before .before .refusal-of-copy .ensures) ∙ worded c .before .if1 .left))
     (c .before .before .copy-words .ensures ∙ whole-copy _ _ (words-long (worded c)) ∙ worded c .level-words .ensures)
 

@@ -3,7 +3,6 @@ use mathlib.Core.Bool.{not}
 use borrow.Author.Needs.{needs}
 use borrow.Author.Tests.{eq-eqb, ne-eqb, lt-ltb, le-ltb, not-true, not-false}
 use Rattle.modular.specs.Arithmetic.{allWords}
-use Rattle.modular.specs.Goldilocks.{p}
 use Rattle.refusals.proofs.Table.{first-front}
 use Rattle.refusals.proofs.LengthsAndWords.{first-bad, second-bad, both-good}
 use Rattle.refusals.proofs.LengthsPlacesAndWords.{at-10, at-11, at-words, twelve, no-twelve}
@@ -28,7 +27,7 @@ returns-2 : tie.Need-returns-2
 unfolding copyRefusals
 returns-2 c =
     let r = c .before .before in
-    sym (at-10 p _ (set-numbered p _) _ _ _ (sym (r .before .refusal-of .ensures) ∙ r .if1 .left) (first-bad _ _ (ne-eqb _ _ (λ z. c .if2 .taken (z ∙ sym (c .before .opening-words .ensures))))))
+    sym (at-10 _ _ (set-numbered _) _ _ _ (sym (r .before .refusal-of .ensures) ∙ r .if1 .left) (first-bad _ _ (ne-eqb _ _ (λ z. c .if2 .taken (z ∙ sym (c .before .opening-words .ensures))))))
 
 part-words-requires : tie.Need-part-words-requires
 part-words-requires c κs =
@@ -40,7 +39,7 @@ unfolding copyRefusals
 returns-3 c =
     let n = c .before .before in
     let r = n .before .before in
-    sym (at-10 p _ (set-numbered p _) _ _ _ (sym (r .before .refusal-of .ensures) ∙ r .if1 .left) (second-bad _ _ (eq-eqb _ _ (n .if2 .left ∙ n .before .opening-words .ensures)) (ne-eqb _ _ (λ z. c .if3 .taken (z ∙ sym (c .before .part-words .ensures))))))
+    sym (at-10 _ _ (set-numbered _) _ _ _ (sym (r .before .refusal-of .ensures) ∙ r .if1 .left) (second-bad _ _ (eq-eqb _ _ (n .if2 .left ∙ n .before .opening-words .ensures)) (ne-eqb _ _ (λ z. c .if3 .taken (z ∙ sym (c .before .part-words .ensures))))))
 
 returns-4 : tie.Need-returns-4
 unfolding copyRefusals
@@ -48,7 +47,7 @@ returns-4 c =
     let m = c .before .before in
     let n = m .before .before in
     let r = n .before .before in
-    sym (at-11 p _ (set-numbered p _) _ _ _ (sym (r .before .refusal-of .ensures) ∙ r .if1 .left) (both-good _ _ (eq-eqb _ _ (n .if2 .left ∙ n .before .opening-words .ensures)) (eq-eqb _ _ (m .if3 .left ∙ m .before .part-words .ensures))) (ap not (le-ltb _ _ (c .if4 .taken))))
+    sym (at-11 _ _ (set-numbered _) _ _ _ (sym (r .before .refusal-of .ensures) ∙ r .if1 .left) (both-good _ _ (eq-eqb _ _ (n .if2 .left ∙ n .before .opening-words .ensures)) (eq-eqb _ _ (m .if3 .left ∙ m .before .part-words .ensures))) (ap not (le-ltb _ _ (c .if4 .taken))))
 
 level-words-requires : tie.Need-level-words-requires
 level-words-requires c κs =
@@ -69,8 +68,8 @@ returns-5 c =
     let m = l .before .before in
     let n = m .before .before in
     let r = n .before .before in
-    sym (at-words p _ (set-numbered p _) _ _ _ (sym (r .before .refusal-of .ensures) ∙ r .if1 .left) (both-good _ _ (eq-eqb _ _ (n .if2 .left ∙ n .before .opening-words .ensures)) (eq-eqb _ _ (m .if3 .left ∙ m .before .part-words .ensures))) (ap not (lt-ltb _ _ (l .if4 .left)))
-    ∙ twelve p _ (sym (c .before .all-words .ensures ∙ ap (allWords p) (w .level-words .ensures)) ∙ not-true _ (c .if5 .taken)))
+    sym (at-words _ _ (set-numbered _) _ _ _ (sym (r .before .refusal-of .ensures) ∙ r .if1 .left) (both-good _ _ (eq-eqb _ _ (n .if2 .left ∙ n .before .opening-words .ensures)) (eq-eqb _ _ (m .if3 .left ∙ m .before .part-words .ensures))) (ap not (lt-ltb _ _ (l .if4 .left)))
+    ∙ twelve _ _ (sym (c .before .all-words .ensures ∙ ap (allWords _) (w .level-words .ensures)) ∙ not-true _ (c .if5 .taken)))
 
 returns-6 : tie.Need-returns-6
 unfolding copyRefusals
@@ -80,8 +79,8 @@ returns-6 c =
     let m = l .before .before in
     let n = m .before .before in
     let r = n .before .before in
-    sym (at-words p _ (set-numbered p _) _ _ _ (sym (r .before .refusal-of .ensures) ∙ r .if1 .left) (both-good _ _ (eq-eqb _ _ (n .if2 .left ∙ n .before .opening-words .ensures)) (eq-eqb _ _ (m .if3 .left ∙ m .before .part-words .ensures))) (ap not (lt-ltb _ _ (l .if4 .left)))
-    ∙ no-twelve p _ (sym (c .before .all-words .ensures ∙ ap (allWords p) (w .level-words .ensures)) ∙ not-false _ (c .if5 .left)))
+    sym (at-words _ _ (set-numbered _) _ _ _ (sym (r .before .refusal-of .ensures) ∙ r .if1 .left) (both-good _ _ (eq-eqb _ _ (n .if2 .left ∙ n .before .opening-words .ensures)) (eq-eqb _ _ (m .if3 .left ∙ m .before .part-words .ensures))) (ap not (lt-ltb _ _ (l .if4 .left)))
+    ∙ no-twelve _ _ (sym (c .before .all-words .ensures ∙ ap (allWords _) (w .level-words .ensures)) ∙ not-false _ (c .if5 .left)))
 
 pub refusal-of-copy-spec : {M : Type 1} → statement M
 refusal-of-copy-spec =

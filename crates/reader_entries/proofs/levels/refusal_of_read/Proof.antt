@@ -3,7 +3,6 @@ use mathlib.Core.Bool.{not}
 use borrow.Author.Needs.{needs}
 use borrow.Author.Tests.{eq-eqb, ne-eqb, lt-ltb, le-ltb, not-true, not-false}
 use Rattle.modular.specs.Arithmetic.{allWords}
-use Rattle.modular.specs.Goldilocks.{p}
 use Rattle.refusals.proofs.Table.{first-front}
 use Rattle.refusals.proofs.LengthsPlacesAndWords.{at-10, at-11, at-words, twelve, no-twelve}
 use Rattle.parameters.proofs.Accepted.{set-numbered}
@@ -27,14 +26,14 @@ returns-2 : tie.Need-returns-2
 unfolding readRefusals
 returns-2 c =
     let r = c .before .before in
-    sym (at-10 p _ (set-numbered p _) _ _ _ (sym (r .before .refusal-of .ensures) ∙ r .if1 .left) (ap not (ne-eqb _ _ (λ z. c .if2 .taken (z ∙ sym (c .before .opening-words .ensures))))))
+    sym (at-10 _ _ (set-numbered _) _ _ _ (sym (r .before .refusal-of .ensures) ∙ r .if1 .left) (ap not (ne-eqb _ _ (λ z. c .if2 .taken (z ∙ sym (c .before .opening-words .ensures))))))
 
 returns-3 : tie.Need-returns-3
 unfolding readRefusals
 returns-3 c =
     let n = c .before .before in
     let r = n .before .before in
-    sym (at-11 p _ (set-numbered p _) _ _ _ (sym (r .before .refusal-of .ensures) ∙ r .if1 .left) (ap not (eq-eqb _ _ (n .if2 .left ∙ n .before .opening-words .ensures))) (ap not (le-ltb _ _ (c .if3 .taken))))
+    sym (at-11 _ _ (set-numbered _) _ _ _ (sym (r .before .refusal-of .ensures) ∙ r .if1 .left) (ap not (eq-eqb _ _ (n .if2 .left ∙ n .before .opening-words .ensures))) (ap not (le-ltb _ _ (c .if3 .taken))))
 
 level-words-requires : tie.Need-level-words-requires
 level-words-requires c κs =
@@ -53,8 +52,8 @@ returns-4 c =
     let l = w .before in
     let n = l .before .before in
     let r = n .before .before in
-    sym (at-words p _ (set-numbered p _) _ _ _ (sym (r .before .refusal-of .ensures) ∙ r .if1 .left) (ap not (eq-eqb _ _ (n .if2 .left ∙ n .before .opening-words .ensures))) (ap not (lt-ltb _ _ (l .if3 .left)))
-    ∙ twelve p _ (sym (c .before .all-words .ensures ∙ ap (allWords p) (w .level-words .ensures)) ∙ not-true _ (c .if4 .taken)))
+    sym (at-words _ _ (set-numbered _) _ _ _ (sym (r .before .refusal-of .ensures) ∙ r .if1 .left) (ap not (eq-eqb _ _ (n .if2 .left ∙ n .before .opening-words .ensures))) (ap not (lt-ltb _ _ (l .if3 .left)))
+    ∙ twelve _ _ (sym (c .before .all-words .ensures ∙ ap (allWords _) (w .level-words .ensures)) ∙ not-true _ (c .if4 .taken)))
 
 returns-5 : tie.Need-returns-5
 unfolding readRefusals
@@ -63,8 +62,8 @@ returns-5 c =
     let l = w .before in
     let n = l .before .before in
     let r = n .before .before in
-    sym (at-words p _ (set-numbered p _) _ _ _ (sym (r .before .refusal-of .ensures) ∙ r .if1 .left) (ap not (eq-eqb _ _ (n .if2 .left ∙ n .before .opening-words .ensures))) (ap not (lt-ltb _ _ (l .if3 .left)))
-    ∙ no-twelve p _ (sym (c .before .all-words .ensures ∙ ap (allWords p) (w .level-words .ensures)) ∙ not-false _ (c .if4 .left)))
+    sym (at-words _ _ (set-numbered _) _ _ _ (sym (r .before .refusal-of .ensures) ∙ r .if1 .left) (ap not (eq-eqb _ _ (n .if2 .left ∙ n .before .opening-words .ensures))) (ap not (lt-ltb _ _ (l .if3 .left)))
+    ∙ no-twelve _ _ (sym (c .before .all-words .ensures ∙ ap (allWords _) (w .level-words .ensures)) ∙ not-false _ (c .if4 .left)))
 
 pub refusal-of-read-spec : {M : Type 1} → statement M
 refusal-of-read-spec =

@@ -42,7 +42,6 @@ use denote.Triple.Clauses.{ensured, lasts}
 use denote.Triple.Table.{entered, cited}
 use denote.Triple.Walked.{says, Stays, stay-dropped, walkOf, Walks, ends-at, walked, goes-dropped, walk-meets}
 use denote.Exit.{yes as kept}
-use Rattle.modular.specs.Goldilocks.{p}
 use Rattle.refusals.specs.Table.{firstRefusal}
 use Rattle.parameters.specs.declared.ParameterSet.{ParameterSet}
 use Rattle.parameters.proofs.ParameterSet as sets
@@ -158,10 +157,10 @@ module _ {M : Type 1} (𝓤 : URA M) (H : Heap 𝓤) (A : Atoms 𝓤) (W : Given
   -- ---- what each call is passed and says
 
   abbrev NumberIs : ℕ → Type 0
-  NumberIs n = n ≡ firstRefusal (readRefusals p s (now x) j)
+  NumberIs n = n ≡ firstRefusal (readRefusals s (now x) j)
 
   abbrev WordsAre : RefT (List ℕ) → Type 0
-  WordsAre r = now r ≡ readWords p s (now x) j
+  WordsAre r = now r ≡ readWords s (now x) j
 
   abbrev number-args : Arg-number
   number-args = (s, (x, (j, tt)))

@@ -35,7 +35,6 @@ use denote.Triple.Clauses.{ensured, lasts}
 use denote.Triple.Table.{entered, cited}
 use denote.Triple.Walked.{says, Stays, stay-dropped, walkOf, Walks, ends-at, walked, goes-dropped, walk-meets}
 use denote.Exit.{yes as kept}
-use Rattle.modular.specs.Goldilocks.{p}
 use Rattle.parameters.specs.declared.ParameterSet.{ParameterSet}
 use Rattle.parameters.proofs.ParameterSet as sets
 use Rattle.parameters.proofs.ParameterSet.Laws as sets′
@@ -131,7 +130,7 @@ module _ {M : Type 1} (𝓤 : URA M) (H : Heap 𝓤) (A : Atoms 𝓤) (W : Given
   IsView d = d .siblings ≡ x
 
   abbrev IsPart : Part → Type 0
-  IsPart r = (partReply (r .number) (now (r .words)) ≡ readReply p s (now x) j) × (now (r .words) ≡ readWords p s (now x) j)
+  IsPart r = (partReply (r .number) (now (r .words)) ≡ readReply s (now x) j) × (now (r .words) ≡ readWords s (now x) j)
 
   abbrev reading-args : Arg-reading
   reading-args = (s, (view, (j, tt)))

@@ -1,14 +1,12 @@
 use mathlib.Core.Path.{sym, ap, _∙_}
 use mathlib.Core.List.{[]}
-use lib.Dec.{lit<}
 use lib.ListN.{length}
 use borrow.Author.Needs.{needs}
-use Rattle.modular.specs.Goldilocks.{p}
-use Rattle.modular.proofs.Goldilocks.{goldilocks}
+use Rattle.fields.proofs.Prime.{prime-field}
 use Rattle.poseidon2.proofs.Rounds.{claims}
-use Rattle.refusals.proofs.Table.{refused-equations, done-equations}
+use Rattle.refusals.proofs.Table.{refused-equations, done-equations, left-as}
 use Rattle.state_entries.specs.Permutation.{outcomeReply, compressRefusals, compressReply, compressUnder, compressed}
-use Rattle.state_entries.proofs.AcceptedStates.{AcceptedNode, accepted-compression, compression-numbered, left-as}
+use Rattle.state_entries.proofs.AcceptedStates.{AcceptedNode, accepted-compression, compression-numbered}
 use Rattle.state_entries.proofs.states.compress.Statement.{statement}
 use Rattle.state_entries.proofs.states.compress.Tie as tie
 
@@ -20,10 +18,10 @@ same-length c = search needs
 
 returns : tie.Need-returns
 unfolding outcomeReply compressReply compressed
-returns c = refused-equations (compressRefusals p _ _ _) [] _ _ _ (c .before .refusal-of-compression .ensures) (c .if1 .taken)
+returns c = refused-equations (compressRefusals _ _ _) [] _ _ _ (c .before .refusal-of-compression .ensures) (c .if1 .taken)
 
-passed : (c : tie.Else1) → AcceptedNode p (c .before .before .before .before .before .args .set) (c .before .before .before .before .before .args .state .now) (c .before .before .before .before .before .args .node .now)
-passed c = accepted-compression p _ _ _ (lit< tt) (sym (c .before .refusal-of-compression .ensures) ∙ c .if1 .left)
+passed : (c : tie.Else1) → AcceptedNode (c .before .before .before .before .before .args .set) (c .before .before .before .before .before .args .state .now) (c .before .before .before .before .before .args .node .now)
+passed c = accepted-compression _ _ _ (sym (c .before .refusal-of-compression .ensures) ∙ c .if1 .left)
 
 compress-requires : tie.Need-compress-requires
 compress-requires c κs =
@@ -36,7 +34,7 @@ held c = c .before .before .before .before .before .before .before .before .befo
 same-length-2 : tie.Need-same-length-2
 same-length-2 c =
     ap length (c .before .before .compress .ensures)
-    ∙ claims p goldilocks .sizes .compression _ _ _ _ _ _ _ (passed (held c) .state .width) (passed (held c) .state .long)
+    ∙ claims _ prime-field .sizes .compression _ _ _ _ _ _ _ (passed (held c) .state .width) (passed (held c) .state .long)
     (passed (held c) .node-fits) .width
     ∙ sym (passed (held c) .node-long)
 
@@ -44,7 +42,7 @@ returns-2 : tie.Need-returns-2
 unfolding outcomeReply compressReply compressed compressUnder
 returns-2 c =
     left-as
-    (done-equations (compressRefusals p _ _ _) [] _ _ (compression-numbered p _ _ _)
+    (done-equations (compressRefusals _ _ _) [] _ _ (compression-numbered _ _ _)
     (sym (held c .before .refusal-of-compression .ensures) ∙ held c .if1 .left))
     (c .before .before .compress .ensures)
 

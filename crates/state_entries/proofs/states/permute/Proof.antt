@@ -1,14 +1,12 @@
 use mathlib.Core.Path.{sym, ap, _∙_}
 use mathlib.Core.List.{[]}
-use lib.Dec.{lit<}
 use lib.ListN.{length}
 use borrow.Author.Needs.{needs}
-use Rattle.modular.specs.Goldilocks.{p}
-use Rattle.modular.proofs.Goldilocks.{goldilocks}
+use Rattle.fields.proofs.Prime.{prime-field}
 use Rattle.poseidon2.proofs.Rounds.{claims}
-use Rattle.refusals.proofs.Table.{refused-equations, done-equations}
+use Rattle.refusals.proofs.Table.{refused-equations, done-equations, left-as}
 use Rattle.state_entries.specs.Permutation.{outcomeReply, stateRefusals, stateReply, permuteUnder, permuted}
-use Rattle.state_entries.proofs.AcceptedStates.{Accepted, accepted, state-numbered, left-as}
+use Rattle.state_entries.proofs.AcceptedStates.{Accepted, accepted, state-numbered}
 use Rattle.state_entries.proofs.states.permute.Statement.{statement}
 use Rattle.state_entries.proofs.states.permute.Tie as tie
 
@@ -20,10 +18,10 @@ same-length c = search needs
 
 returns : tie.Need-returns
 unfolding outcomeReply stateReply permuted
-returns c = refused-equations (stateRefusals p _ _) [] _ _ _ (c .before .refusal-of-state .ensures) (c .if1 .taken)
+returns c = refused-equations (stateRefusals _ _) [] _ _ _ (c .before .refusal-of-state .ensures) (c .if1 .taken)
 
-passed : (c : tie.Else1) → Accepted p (c .before .before .before .before .args .set) (c .before .before .before .before .args .state .now)
-passed c = accepted p _ _ (lit< tt) (sym (c .before .refusal-of-state .ensures) ∙ c .if1 .left)
+passed : (c : tie.Else1) → Accepted (c .before .before .before .before .args .set) (c .before .before .before .before .args .state .now)
+passed c = accepted _ _ (sym (c .before .refusal-of-state .ensures) ∙ c .if1 .left)
 
 permute-requires : tie.Need-permute-requires
 permute-requires c κs =
@@ -36,13 +34,13 @@ held c = c .before .before .before .before .before .before .before .before .befo
 same-length-2 : tie.Need-same-length-2
 same-length-2 c =
     ap length (c .before .before .permute .ensures)
-    ∙ claims p goldilocks .sizes .permutation _ _ _ _ _ _ (passed (held c) .width) (passed (held c) .long) .width ∙ sym (passed (held c) .long)
+    ∙ claims _ prime-field .sizes .permutation _ _ _ _ _ _ (passed (held c) .width) (passed (held c) .long) .width ∙ sym (passed (held c) .long)
 
 returns-2 : tie.Need-returns-2
 unfolding outcomeReply stateReply permuted permuteUnder
 returns-2 c =
     left-as
-    (done-equations (stateRefusals p _ _) [] _ _ (state-numbered p _ _) (sym (held c .before .refusal-of-state .ensures) ∙ held c .if1 .left))
+    (done-equations (stateRefusals _ _) [] _ _ (state-numbered _ _) (sym (held c .before .refusal-of-state .ensures) ∙ held c .if1 .left))
     (c .before .before .permute .ensures)
 
 pub permute-spec : {M : Type 1} → statement M

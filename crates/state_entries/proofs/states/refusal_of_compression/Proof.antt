@@ -1,7 +1,6 @@
 use mathlib.Core.Path.{sym, _∙_}
 use borrow.Author.Needs.{needs}
 use borrow.Author.Tests.{eq-eqb, ne-eqb, not-true, not-false}
-use Rattle.modular.specs.Goldilocks.{p}
 use Rattle.refusals.proofs.Table.{first-front}
 use Rattle.parameters.proofs.Accepted.{set-numbered}
 use Rattle.state_entries.specs.Permutation.{compressRefusals}
@@ -22,14 +21,14 @@ returns-2 : tie.Need-returns-2
 unfolding compressRefusals
 returns-2 c =
     let r = c .before .before in
-    sym (at-10 p _ (set-numbered p _) _ _ (sym (r .before .refusal-of .ensures) ∙ r .if1 .left) (first-bad _ _ (ne-eqb _ _ (c .if2 .taken))))
+    sym (at-10 _ _ (set-numbered _) _ _ (sym (r .before .refusal-of .ensures) ∙ r .if1 .left) (first-bad _ _ (ne-eqb _ _ (c .if2 .taken))))
 
 returns-3 : tie.Need-returns-3
 unfolding compressRefusals
 returns-3 c =
     let l = c .before .before in
     let r = l .before .before in
-    sym (at-10 p _ (set-numbered p _) _ _ (sym (r .before .refusal-of .ensures) ∙ r .if1 .left) (second-bad _ _ (eq-eqb _ _ (l .if2 .left)) (ne-eqb _ _ (c .if3 .taken))))
+    sym (at-10 _ _ (set-numbered _) _ _ (sym (r .before .refusal-of .ensures) ∙ r .if1 .left) (second-bad _ _ (eq-eqb _ _ (l .if2 .left)) (ne-eqb _ _ (c .if3 .taken))))
 
 all-words-requires : tie.Need-all-words-requires
 all-words-requires c κs = search needs
@@ -40,7 +39,7 @@ returns-4 c =
     let n = c .before .before in
     let l = n .before .before in
     let r = l .before .before in
-    sym (at-12 p _ (set-numbered p _) _ _ (sym (r .before .refusal-of .ensures) ∙ r .if1 .left) (both-good _ _ (eq-eqb _ _ (l .if2 .left)) (eq-eqb _ _ (n .if3 .left)))
+    sym (at-12 _ _ (set-numbered _) _ _ (sym (r .before .refusal-of .ensures) ∙ r .if1 .left) (both-good _ _ (eq-eqb _ _ (l .if2 .left)) (eq-eqb _ _ (n .if3 .left)))
     (sym (c .before .all-words .ensures) ∙ not-true _ (c .if4 .taken)))
 
 returns-5 : tie.Need-returns-5
@@ -49,7 +48,7 @@ returns-5 c =
     let n = c .before .before in
     let l = n .before .before in
     let r = l .before .before in
-    sym (at-none p _ (set-numbered p _) _ _ (sym (r .before .refusal-of .ensures) ∙ r .if1 .left) (both-good _ _ (eq-eqb _ _ (l .if2 .left)) (eq-eqb _ _ (n .if3 .left)))
+    sym (at-none _ _ (set-numbered _) _ _ (sym (r .before .refusal-of .ensures) ∙ r .if1 .left) (both-good _ _ (eq-eqb _ _ (l .if2 .left)) (eq-eqb _ _ (n .if3 .left)))
     (sym (c .before .all-words .ensures) ∙ not-false _ (c .if4 .left)))
 
 pub refusal-of-compression-spec : {M : Type 1} → statement M

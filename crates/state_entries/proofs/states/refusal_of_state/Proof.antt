@@ -2,7 +2,6 @@ use mathlib.Core.Path.{sym, ap, _∙_}
 use mathlib.Core.Bool.{not}
 use borrow.Author.Needs.{needs}
 use borrow.Author.Tests.{eq-eqb, ne-eqb, not-true, not-false}
-use Rattle.modular.specs.Goldilocks.{p}
 use Rattle.refusals.proofs.Table.{first-front}
 use Rattle.parameters.proofs.Accepted.{set-numbered}
 use Rattle.state_entries.specs.Permutation.{stateRefusals}
@@ -23,7 +22,7 @@ returns-2 : tie.Need-returns-2
 unfolding stateRefusals
 returns-2 c =
     let r = c .before .before in
-    sym (at-10 p _ (set-numbered p _) _ _ (sym (r .before .refusal-of .ensures) ∙ r .if1 .left) (ap not (ne-eqb _ _ (c .if2 .taken))))
+    sym (at-10 _ _ (set-numbered _) _ _ (sym (r .before .refusal-of .ensures) ∙ r .if1 .left) (ap not (ne-eqb _ _ (c .if2 .taken))))
 
 all-words-requires : tie.Need-all-words-requires
 all-words-requires c κs = search needs
@@ -33,7 +32,7 @@ unfolding stateRefusals
 returns-3 c =
     let l = c .before .before in
     let r = l .before .before in
-    sym (at-12 p _ (set-numbered p _) _ _ (sym (r .before .refusal-of .ensures) ∙ r .if1 .left) (ap not (eq-eqb _ _ (l .if2 .left)))
+    sym (at-12 _ _ (set-numbered _) _ _ (sym (r .before .refusal-of .ensures) ∙ r .if1 .left) (ap not (eq-eqb _ _ (l .if2 .left)))
     (sym (c .before .all-words .ensures) ∙ not-true _ (c .if3 .taken)))
 
 returns-4 : tie.Need-returns-4
@@ -41,7 +40,7 @@ unfolding stateRefusals
 returns-4 c =
     let l = c .before .before in
     let r = l .before .before in
-    sym (at-none p _ (set-numbered p _) _ _ (sym (r .before .refusal-of .ensures) ∙ r .if1 .left) (ap not (eq-eqb _ _ (l .if2 .left)))
+    sym (at-none _ _ (set-numbered _) _ _ (sym (r .before .refusal-of .ensures) ∙ r .if1 .left) (ap not (eq-eqb _ _ (l .if2 .left)))
     (sym (c .before .all-words .ensures) ∙ not-false _ (c .if3 .left)))
 
 pub refusal-of-state-spec : {M : Type 1} → statement M

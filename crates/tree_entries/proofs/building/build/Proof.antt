@@ -1,7 +1,6 @@
 use mathlib.Core.Path.{sym, _∙_}
 use mathlib.Core.List.{[]}
 use borrow.Author.Needs.{needs}
-use Rattle.modular.specs.Goldilocks.{p}
 use Rattle.refusals.proofs.Table.{refused-equations, done-equations}
 use Rattle.state_entries.specs.Permutation.{outcomeReply}
 use Rattle.tree_entries.specs.Trees.{buildRefusals, buildReply, built}
@@ -18,7 +17,7 @@ same-length c = search needs
 
 returns : tie.Need-returns
 unfolding outcomeReply buildReply built
-returns c = refused-equations (buildRefusals p _ _ _) [] _ _ _ (c .before .refusal-of-build .ensures) (c .if1 .taken)
+returns c = refused-equations (buildRefusals _ _ _) [] _ _ _ (c .before .refusal-of-build .ensures) (c .if1 .taken)
 
 passed : (c : tie.Else1) → trees.Built (c .before .before .before .before .before .args .set) (c .before .before .before .before .before .args .leaves .now) (c .before .before .before .before .before .args .store .now)
 passed c = trees.build-passed _ _ _ (sym (c .before .refusal-of-build .ensures) ∙ c .if1 .left)
@@ -44,7 +43,7 @@ returns-2 : tie.Need-returns-2
 unfolding outcomeReply buildReply built
 returns-2 c =
     rw (c .before .before .build .ensures, sized (c .before .before) .dimensions .ensures)
-    (done-equations (buildRefusals p _ _ _) [] _ _ (trees.build-numbered _ _ _) (sym (sized (c .before .before) .before .before .refusal-of-build .ensures) ∙ sized (c .before .before) .before .if1 .left))
+    (done-equations (buildRefusals _ _ _) [] _ _ (trees.build-numbered _ _ _) (sym (sized (c .before .before) .before .before .refusal-of-build .ensures) ∙ sized (c .before .before) .before .if1 .left))
 
 pub build-spec : {M : Type 1} → statement M
 build-spec =

@@ -1,7 +1,6 @@
 use mathlib.Core.Path.{sym, ap, _∙_}
 use borrow.Author.Needs.{needs}
 use borrow.Author.Tests.{eq-eqb, ne-eqb, not-true, not-false}
-use Rattle.modular.specs.Goldilocks.{p}
 use Rattle.refusals.proofs.Table.{front-answers}
 use Rattle.parameters.proofs.Accepted.{set-numbered}
 use Prim.Native.Nat.{ℕ, _-_}
@@ -28,14 +27,14 @@ returns-2 : tie.Need-returns-2
 unfolding rootRefusals
 returns-2 c =
     let r = c .before .before in
-    sym (at-10 p _ (set-numbered p _) _ _ (sym (r .before .refusal-of .ensures) ∙ r .if1 .left) (first-bad _ _ (ne-eqb _ _ (λ z. c .if2 .taken (z ∙ sym (c .before .store-words .ensures))))))
+    sym (at-10 _ _ (set-numbered _) _ _ (sym (r .before .refusal-of .ensures) ∙ r .if1 .left) (first-bad _ _ (ne-eqb _ _ (λ z. c .if2 .taken (z ∙ sym (c .before .store-words .ensures))))))
 
 returns-3 : tie.Need-returns-3
 unfolding rootRefusals
 returns-3 c =
     let n = c .before .before in
     let r = n .before .before in
-    sym (at-10 p _ (set-numbered p _) _ _ (sym (r .before .refusal-of .ensures) ∙ r .if1 .left) (second-bad _ _ (eq-eqb _ _ (n .if2 .left ∙ n .before .store-words .ensures)) (ne-eqb _ _ (c .if3 .taken))))
+    sym (at-10 _ _ (set-numbered _) _ _ (sym (r .before .refusal-of .ensures) ∙ r .if1 .left) (second-bad _ _ (eq-eqb _ _ (n .if2 .left ∙ n .before .store-words .ensures)) (ne-eqb _ _ (c .if3 .taken))))
 
 ends-in-words-requires : tie.Need-ends-in-words-requires
 ends-in-words-requires c κs =
@@ -49,8 +48,8 @@ returns-4 c =
     let m = c .before .before in
     let n = m .before .before in
     let r = n .before .before in
-    sym (at-12 p _ (set-numbered p _) _ _ (sym (r .before .refusal-of .ensures) ∙ r .if1 .left) (both-good _ _ (eq-eqb _ _ (n .if2 .left ∙ n .before .store-words .ensures)) (eq-eqb _ _ (m .if3 .left)))
-    (sym (c .before .ends-in-words .ensures ∙ ap (λ (l : ℕ). allWords p (drop (length (r .before .before .before .before .args .store .now) - l) (r .before .before .before .before .args .store .now))) (m .if3 .left)) ∙ not-true _ (c .if4 .taken)))
+    sym (at-12 _ _ (set-numbered _) _ _ (sym (r .before .refusal-of .ensures) ∙ r .if1 .left) (both-good _ _ (eq-eqb _ _ (n .if2 .left ∙ n .before .store-words .ensures)) (eq-eqb _ _ (m .if3 .left)))
+    (sym (c .before .ends-in-words .ensures ∙ ap (λ (l : ℕ). allWords _ (drop (length (r .before .before .before .before .args .store .now) - l) (r .before .before .before .before .args .store .now))) (m .if3 .left)) ∙ not-true _ (c .if4 .taken)))
 
 returns-5 : tie.Need-returns-5
 unfolding rootRefusals root
@@ -58,8 +57,8 @@ returns-5 c =
     let m = c .before .before in
     let n = m .before .before in
     let r = n .before .before in
-    sym (at-none p _ (set-numbered p _) _ _ (sym (r .before .refusal-of .ensures) ∙ r .if1 .left) (both-good _ _ (eq-eqb _ _ (n .if2 .left ∙ n .before .store-words .ensures)) (eq-eqb _ _ (m .if3 .left)))
-    (sym (c .before .ends-in-words .ensures ∙ ap (λ (l : ℕ). allWords p (drop (length (r .before .before .before .before .args .store .now) - l) (r .before .before .before .before .args .store .now))) (m .if3 .left)) ∙ not-false _ (c .if4 .left)))
+    sym (at-none _ _ (set-numbered _) _ _ (sym (r .before .refusal-of .ensures) ∙ r .if1 .left) (both-good _ _ (eq-eqb _ _ (n .if2 .left ∙ n .before .store-words .ensures)) (eq-eqb _ _ (m .if3 .left)))
+    (sym (c .before .ends-in-words .ensures ∙ ap (λ (l : ℕ). allWords _ (drop (length (r .before .before .before .before .args .store .now) - l) (r .before .before .before .before .args .store .now))) (m .if3 .left)) ∙ not-false _ (c .if4 .left)))
 
 pub refusal-of-root-spec : {M : Type 1} → statement M
 refusal-of-root-spec =

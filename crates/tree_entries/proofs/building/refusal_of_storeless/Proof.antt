@@ -1,7 +1,6 @@
 use mathlib.Core.Path.{sym, _∙_}
 use borrow.Author.Needs.{needs}
 use borrow.Author.Tests.{eq-eqb, ne-eqb, not-true, not-false}
-use Rattle.modular.specs.Goldilocks.{p}
 use Rattle.refusals.proofs.Table.{front-answers}
 use Rattle.parameters.proofs.Accepted.{set-numbered}
 use Rattle.tree_entries.specs.Trees.{storelessRefusals}
@@ -23,14 +22,14 @@ returns-2 : tie.Need-returns-2
 unfolding storelessRefusals
 returns-2 c =
     let r = c .before .before in
-    sym (at-10 p _ (set-numbered p _) _ _ (sym (r .before .refusal-of .ensures) ∙ r .if1 .left) (first-bad _ _ (ne-eqb _ _ (λ z. c .if2 .taken (z ∙ sym (c .before .leaf-words .ensures))))))
+    sym (at-10 _ _ (set-numbered _) _ _ (sym (r .before .refusal-of .ensures) ∙ r .if1 .left) (first-bad _ _ (ne-eqb _ _ (λ z. c .if2 .taken (z ∙ sym (c .before .leaf-words .ensures))))))
 
 returns-3 : tie.Need-returns-3
 unfolding storelessRefusals
 returns-3 c =
     let n = c .before .before in
     let r = n .before .before in
-    sym (at-10 p _ (set-numbered p _) _ _ (sym (r .before .refusal-of .ensures) ∙ r .if1 .left) (second-bad _ _ (eq-eqb _ _ (n .if2 .left ∙ n .before .leaf-words .ensures)) (ne-eqb _ _ (c .if3 .taken))))
+    sym (at-10 _ _ (set-numbered _) _ _ (sym (r .before .refusal-of .ensures) ∙ r .if1 .left) (second-bad _ _ (eq-eqb _ _ (n .if2 .left ∙ n .before .leaf-words .ensures)) (ne-eqb _ _ (c .if3 .taken))))
 
 all-words-requires : tie.Need-all-words-requires
 all-words-requires c κs = search needs
@@ -41,7 +40,7 @@ returns-4 c =
     let m = c .before .before in
     let n = m .before .before in
     let r = n .before .before in
-    sym (at-12 p _ (set-numbered p _) _ _ (sym (r .before .refusal-of .ensures) ∙ r .if1 .left) (both-good _ _ (eq-eqb _ _ (n .if2 .left ∙ n .before .leaf-words .ensures)) (eq-eqb _ _ (m .if3 .left)))
+    sym (at-12 _ _ (set-numbered _) _ _ (sym (r .before .refusal-of .ensures) ∙ r .if1 .left) (both-good _ _ (eq-eqb _ _ (n .if2 .left ∙ n .before .leaf-words .ensures)) (eq-eqb _ _ (m .if3 .left)))
     (sym (c .before .all-words .ensures) ∙ not-true _ (c .if4 .taken)))
 
 returns-5 : tie.Need-returns-5
@@ -50,7 +49,7 @@ returns-5 c =
     let m = c .before .before in
     let n = m .before .before in
     let r = n .before .before in
-    sym (at-none p _ (set-numbered p _) _ _ (sym (r .before .refusal-of .ensures) ∙ r .if1 .left) (both-good _ _ (eq-eqb _ _ (n .if2 .left ∙ n .before .leaf-words .ensures)) (eq-eqb _ _ (m .if3 .left)))
+    sym (at-none _ _ (set-numbered _) _ _ (sym (r .before .refusal-of .ensures) ∙ r .if1 .left) (both-good _ _ (eq-eqb _ _ (n .if2 .left ∙ n .before .leaf-words .ensures)) (eq-eqb _ _ (m .if3 .left)))
     (sym (c .before .all-words .ensures) ∙ not-false _ (c .if4 .left)))
 
 pub refusal-of-storeless-spec : {M : Type 1} → statement M

@@ -1,7 +1,6 @@
 use mathlib.Core.Path.{sym, ap, _∙_}
 use mathlib.Core.List.{[]}
 use borrow.Author.Needs.{needs}
-use Rattle.modular.specs.Goldilocks.{p}
 use Rattle.refusals.proofs.Table.{refused-equations, done-equations}
 use lib.ListN.{length}
 use Rattle.state_entries.specs.Permutation.{outcomeReply}
@@ -19,7 +18,7 @@ same-length c = search needs
 
 returns : tie.Need-returns
 unfolding outcomeReply rootReply rooted
-returns c = refused-equations (rootRefusals p _ _ _) [] _ _ _ (c .before .refusal-of-root .ensures) (c .if1 .taken)
+returns c = refused-equations (rootRefusals _ _ _) [] _ _ _ (c .before .refusal-of-root .ensures) (c .if1 .taken)
 
 passed : (c : tie.Else1) → trees.Rooted (c .before .before .before .before .before .args .set) (c .before .before .before .before .before .args .store .now) (c .before .before .before .before .before .args .node .now)
 passed c = trees.root-passed _ _ _ (sym (c .before .refusal-of-root .ensures) ∙ c .if1 .left)
@@ -47,7 +46,7 @@ returns-2 c =
     let w = c .before .before in
     let d = w .before .before in
     let s = d .before .before .before .before .before .before .args .set in
-    let e = done-equations (rootRefusals p _ _ _) [] _ _ (trees.root-numbered _ _ _) (sym (d .before .before .refusal-of-root .ensures) ∙ d .before .if1 .left) in
+    let e = done-equations (rootRefusals _ _ _) [] _ _ (trees.root-numbered _ _ _) (sym (d .before .before .refusal-of-root .ensures) ∙ d .before .if1 .left) in
     (e .0, (rw (d .dimensions .ensures) at (w .copy-root .ensures (s .diagonal) (s .constants))) ∙ e .1)
 
 pub root-spec : {M : Type 1} → statement M

@@ -1,7 +1,6 @@
 use mathlib.Core.Path.{sym, _∙_}
 use mathlib.Core.List.{[]}
 use borrow.Author.Needs.{needs}
-use Rattle.modular.specs.Goldilocks.{p}
 use Rattle.refusals.proofs.Table.{refused-equations, done-equations}
 use Rattle.state_entries.specs.Permutation.{outcomeReply}
 use Rattle.tree_entries.specs.Trees.{storelessRefusals, storelessReply, storelessRooted}
@@ -18,7 +17,7 @@ same-length c = search needs
 
 returns : tie.Need-returns
 unfolding outcomeReply storelessReply storelessRooted
-returns c = refused-equations (storelessRefusals p _ _ _) [] _ _ _ (c .before .refusal-of-storeless .ensures) (c .if1 .taken)
+returns c = refused-equations (storelessRefusals _ _ _) [] _ _ _ (c .before .refusal-of-storeless .ensures) (c .if1 .taken)
 
 passed : (c : tie.Else1) → trees.StorelessRooted (c .before .before .before .before .before .args .set) (c .before .before .before .before .before .args .leaves .now) (c .before .before .before .before .before .args .node .now)
 passed c = trees.storeless-passed _ _ _ (sym (c .before .refusal-of-storeless .ensures) ∙ c .if1 .left)
@@ -44,7 +43,7 @@ returns-2 : tie.Need-returns-2
 unfolding outcomeReply storelessReply storelessRooted
 returns-2 c =
     rw (c .before .before .storeless-root .ensures, sized (c .before .before) .dimensions .ensures)
-    (done-equations (storelessRefusals p _ _ _) [] _ _ (trees.storeless-numbered _ _ _) (sym (sized (c .before .before) .before .before .refusal-of-storeless .ensures) ∙ sized (c .before .before) .before .if1 .left))
+    (done-equations (storelessRefusals _ _ _) [] _ _ (trees.storeless-numbered _ _ _) (sym (sized (c .before .before) .before .before .refusal-of-storeless .ensures) ∙ sized (c .before .before) .before .if1 .left))
 
 pub storeless-root-spec : {M : Type 1} → statement M
 storeless-root-spec =

@@ -1,7 +1,6 @@
 use mathlib.Core.Path.{_≡_, sym, _∙_}
 use mathlib.Core.List.{[]}
 use borrow.Author.Needs.{needs}
-use Rattle.modular.specs.Goldilocks.{p}
 use Rattle.refusals.specs.Table.{firstRefusal}
 use Rattle.refusals.proofs.Table.{refused-equations, done-equations}
 use Rattle.merkle.specs.Openings.{opening}
@@ -22,9 +21,9 @@ same-length c = search needs
 
 returns : tie.Need-returns
 unfolding outcomeReply openReply opened
-returns c = refused-equations (openRefusals p _ _ _ _) [] _ _ _ (c .before .refusal-of-open .ensures) (c .if1 .taken)
+returns c = refused-equations (openRefusals _ _ _ _) [] _ _ _ (c .before .refusal-of-open .ensures) (c .if1 .taken)
 
-none : (c : tie.Else1) → let a = c .before .before .before .before .before .args in firstRefusal (openRefusals p (a .set) (a .store .now) (a .place) (a .siblings .now)) ≡ 0
+none : (c : tie.Else1) → let a = c .before .before .before .before .before .args in firstRefusal (openRefusals (a .set) (a .store .now) (a .place) (a .siblings .now)) ≡ 0
 none c = sym (c .before .refusal-of-open .ensures) ∙ c .if1 .left
 
 passed : (c : tie.Else1) → let a = c .before .before .before .before .before .args in trees.Opened (a .set) (a .store .now) (a .place) (a .siblings .now)
@@ -55,7 +54,7 @@ returns-2 c =
     let d = w .before .before in
     let s = d .before .before .before .before .before .before .args .set in
     rw (rw (d .dimensions .ensures) at (w .«open» .ensures (s .diagonal) (s .constants)))
-    (done-equations (openRefusals p s _ _ _) [] _ (opening (treeOf p s) (s .height) _ _) (trees.open-numbered s _ _ _) (none (d .before)))
+    (done-equations (openRefusals s _ _ _) [] _ (opening (treeOf s) (s .height) _ _) (trees.open-numbered s _ _ _) (none (d .before)))
 
 pub open-spec : {M : Type 1} → statement M
 open-spec =

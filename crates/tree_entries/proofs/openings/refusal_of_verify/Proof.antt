@@ -2,7 +2,6 @@ use mathlib.Core.Path.{sym, ap, _∙_}
 use mathlib.Core.Bool.{not}
 use borrow.Author.Needs.{needs}
 use borrow.Author.Tests.{eq-eqb, ne-eqb, lt-ltb, le-ltb}
-use Rattle.modular.specs.Goldilocks.{p}
 use Rattle.refusals.proofs.Table.{front-answers}
 use Rattle.parameters.proofs.Accepted.{set-numbered}
 use Rattle.modular.proofs.Words.{and-true}
@@ -23,14 +22,14 @@ returns-2 : tie.Need-returns-2
 unfolding verifyRefusals
 returns-2 c =
     let r = c .before .before in
-    sym (at-10 p _ (set-numbered p _) _ _ _ (sym (r .before .refusal-of .ensures) ∙ r .if1 .left) (first-bad _ _ (and-false-left _ _ (ne-eqb _ _ (c .if2 .taken)))))
+    sym (at-10 _ _ (set-numbered _) _ _ _ (sym (r .before .refusal-of .ensures) ∙ r .if1 .left) (first-bad _ _ (and-false-left _ _ (ne-eqb _ _ (c .if2 .taken)))))
 
 returns-3 : tie.Need-returns-3
 unfolding verifyRefusals
 returns-3 c =
     let a = c .before .before in
     let r = a .before .before in
-    sym (at-10 p _ (set-numbered p _) _ _ _ (sym (r .before .refusal-of .ensures) ∙ r .if1 .left) (first-bad _ _ (and-false-right _ _ (eq-eqb _ _ (a .if2 .left)) (ne-eqb _ _ (c .if3 .taken)))))
+    sym (at-10 _ _ (set-numbered _) _ _ _ (sym (r .before .refusal-of .ensures) ∙ r .if1 .left) (first-bad _ _ (and-false-right _ _ (eq-eqb _ _ (a .if2 .left)) (ne-eqb _ _ (c .if3 .taken)))))
 
 opening-words-requires : tie.Need-opening-words-requires
 opening-words-requires c κs =
@@ -43,7 +42,7 @@ returns-4 c =
     let b = c .before .before in
     let a = b .before .before in
     let r = a .before .before in
-    sym (at-10 p _ (set-numbered p _) _ _ _ (sym (r .before .refusal-of .ensures) ∙ r .if1 .left) (second-bad _ _ (and-true _ _ (eq-eqb _ _ (a .if2 .left)) (eq-eqb _ _ (b .if3 .left))) (ne-eqb _ _ (λ z. c .if4 .taken (z ∙ sym (c .before .opening-words .ensures))))))
+    sym (at-10 _ _ (set-numbered _) _ _ _ (sym (r .before .refusal-of .ensures) ∙ r .if1 .left) (second-bad _ _ (and-true _ _ (eq-eqb _ _ (a .if2 .left)) (eq-eqb _ _ (b .if3 .left))) (ne-eqb _ _ (λ z. c .if4 .taken (z ∙ sym (c .before .opening-words .ensures))))))
 
 places-requires : tie.Need-places-requires
 places-requires c κs =
@@ -57,7 +56,7 @@ returns-5 c =
     let b = e .before .before in
     let a = b .before .before in
     let r = a .before .before in
-    sym (at-11 p _ (set-numbered p _) _ _ _ (sym (r .before .refusal-of .ensures) ∙ r .if1 .left) (both-good _ _ (and-true _ _ (eq-eqb _ _ (a .if2 .left)) (eq-eqb _ _ (b .if3 .left))) (eq-eqb _ _ (e .if4 .left ∙ e .before .opening-words .ensures))) (ap not (le-ltb _ _ (rw (c .before .places .ensures) at (c .if5 .taken)))))
+    sym (at-11 _ _ (set-numbered _) _ _ _ (sym (r .before .refusal-of .ensures) ∙ r .if1 .left) (both-good _ _ (and-true _ _ (eq-eqb _ _ (a .if2 .left)) (eq-eqb _ _ (b .if3 .left))) (eq-eqb _ _ (e .if4 .left ∙ e .before .opening-words .ensures))) (ap not (le-ltb _ _ (rw (c .before .places .ensures) at (c .if5 .taken)))))
 
 refusal-of-words-requires : tie.Need-refusal-of-words-requires
 refusal-of-words-requires c κs = search needs
@@ -71,7 +70,7 @@ returns-6 c =
     let a = b .before .before in
     let r = a .before .before in
     c .refusal-of-words .ensures
-    ∙ sym (at-words p _ (set-numbered p _) _ _ _ (sym (r .before .refusal-of .ensures) ∙ r .if1 .left) (both-good _ _ (and-true _ _ (eq-eqb _ _ (a .if2 .left)) (eq-eqb _ _ (b .if3 .left))) (eq-eqb _ _ (e .if4 .left ∙ e .before .opening-words .ensures))) (ap not (lt-ltb _ _ (rw (q .before .places .ensures) at (q .if5 .left)))))
+    ∙ sym (at-words _ _ (set-numbered _) _ _ _ (sym (r .before .refusal-of .ensures) ∙ r .if1 .left) (both-good _ _ (and-true _ _ (eq-eqb _ _ (a .if2 .left)) (eq-eqb _ _ (b .if3 .left))) (eq-eqb _ _ (e .if4 .left ∙ e .before .opening-words .ensures))) (ap not (lt-ltb _ _ (rw (q .before .places .ensures) at (q .if5 .left)))))
 
 pub refusal-of-verify-spec : {M : Type 1} → statement M
 refusal-of-verify-spec =

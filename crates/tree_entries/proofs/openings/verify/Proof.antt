@@ -2,7 +2,6 @@ use mathlib.Core.Path.{_≡_, sym, ap, _∙_}
 use mathlib.Core.Bool.{Bool, cond}
 use mathlib.Core.List.{[], _∷_}
 use borrow.Author.Needs.{needs}
-use Rattle.modular.specs.Goldilocks.{p}
 use Rattle.refusals.specs.Table.{refused, done}
 use Rattle.refusals.proofs.Table.{reply-refused, reply-done}
 use Rattle.tree_entries.specs.Trees.{verdictReply, verifyRefusals, verifyReply}
@@ -17,7 +16,7 @@ refusal-of-verify-requires c κs = search needs
 returns : tie.Need-returns
 unfolding verdictReply verifyReply
 returns c =
-    ap refused (c .before .refusal-of-verify .ensures) ∙ sym (reply-refused (verifyRefusals p _ _ _ _ _) _ (λ z. c .if1 .taken (c .before .refusal-of-verify .ensures ∙ z)))
+    ap refused (c .before .refusal-of-verify .ensures) ∙ sym (reply-refused (verifyRefusals _ _ _ _ _) _ (λ z. c .if1 .taken (c .before .refusal-of-verify .ensures ∙ z)))
 
 passed : (c : tie.Else1) → trees.Verified (c .before .before .before .before .before .args .set) (c .before .before .before .before .before .args .root .now) (c .before .before .before .before .before .args .place) (c .before .before .before .before .before .args .leaf .now) (c .before .before .before .before .before .args .siblings .now)
 passed c = trees.verify-passed _ _ _ _ _ (sym (c .before .refusal-of-verify .ensures) ∙ c .if1 .left)
@@ -35,10 +34,10 @@ abbrev sized : tie.After-accepts → tie.After-dimensions
 sized w = w .before .before .before .before .before
 
 -- the reply, by what was found of the path
-answered : (w : tie.After-accepts) → let a = sized w .before .before .before .before .before .before .args in verifyReply p (a .set) (a .root .now) (a .place) (a .leaf .now) (a .siblings .now) ≡ done (cond (w .accepts .result) 1 0 ∷ [])
+answered : (w : tie.After-accepts) → let a = sized w .before .before .before .before .before .before .args in verifyReply (a .set) (a .root .now) (a .place) (a .leaf .now) (a .siblings .now) ≡ done (cond (w .accepts .result) 1 0 ∷ [])
 unfolding verifyReply
 answered w =
-    reply-done (verifyRefusals p _ _ _ _ _) _ (trees.verify-numbered _ _ _ _ _) (sym (sized w .before .before .refusal-of-verify .ensures) ∙ sized w .before .if1 .left)
+    reply-done (verifyRefusals _ _ _ _ _) _ (trees.verify-numbered _ _ _ _ _) (sym (sized w .before .before .refusal-of-verify .ensures) ∙ sized w .before .if1 .left)
     ∙ ap (λ (b : Bool). done (cond b 1 0 ∷ [])) (sym (rw (sized w .dimensions .ensures) at (w .accepts .ensures)))
 
 returns-2 : tie.Need-returns-2

@@ -2,7 +2,6 @@ use mathlib.Core.Path.{_≡_, sym, _∙_}
 use mathlib.Core.List.{[], _∷_}
 use Prim.Native.Nat.{ℕ}
 use borrow.Author.Needs.{needs}
-use Rattle.modular.specs.Goldilocks.{p}
 use Rattle.refusals.specs.Table.{done}
 use Rattle.refusals.proofs.Table.{refused-equations, done-equations}
 use Rattle.parameters.specs.ParameterSet.{setRefusals}
@@ -16,7 +15,7 @@ refusal-of-requires c κs = search needs
 
 returns : tie.Need-returns
 unfolding sizingReply sizesReply
-returns c = refused-equations (setRefusals p _) _ [] [] _ (c .before .refusal-of .ensures) (c .if1 .taken) .0
+returns c = refused-equations (setRefusals _) _ [] [] _ (c .before .refusal-of .ensures) (c .if1 .taken) .0
 
 leaf-words-requires : tie.Need-leaf-words-requires
 leaf-words-requires c κs = search needs
@@ -37,7 +36,7 @@ returns-2 c =
     let l = s .before in
     let n = l .before in
     three (l .leaf-words .ensures) (s .store-words .ensures) (c .opening-words .ensures)
-    ∙ done-equations (setRefusals p _) _ [] [] (set-numbered p _) (sym (n .before .refusal-of .ensures) ∙ n .if1 .left) .0
+    ∙ done-equations (setRefusals _) _ [] [] (set-numbered _) (sym (n .before .refusal-of .ensures) ∙ n .if1 .left) .0
 
 pub sizes-spec : {M : Type 1} → statement M
 sizes-spec =

@@ -4,7 +4,6 @@ use native.Mathlib.Omega.{arith}
 use lib.ListN.{length, drop, length-drop}
 use lib.Seq.{take-all}
 use Rattle.modular.specs.Arithmetic.{allWords}
-use Rattle.modular.specs.Goldilocks.{p}
 use borrow.Author.Needs.{needs}
 use Rattle.trees.proofs.building.ends_in_words.Statement.{statement}
 use Rattle.trees.proofs.building.ends_in_words.Tie as tie
@@ -33,7 +32,7 @@ all-words-requires c κs = search needs
 returns : tie.Need-returns
 returns c =
     let a = c .before .before .before .args in
-    c .all-words .ensures ∙ ap (allWords p) (take-all (length (a .store .now) - (length (a .store .now) - a .count)) (drop (length (a .store .now) - a .count) (a .store .now)) (simp length-drop (omega arith)))
+    c .all-words .ensures ∙ ap (allWords _) (take-all (length (a .store .now) - (length (a .store .now) - a .count)) (drop (length (a .store .now) - a .count) (a .store .now)) (simp length-drop (omega arith)))
 
 pub ends-in-words-spec : {M : Type 1} → statement M
 ends-in-words-spec =

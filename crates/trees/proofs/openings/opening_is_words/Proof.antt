@@ -7,11 +7,10 @@ use native.Mathlib.Omega.{arith}
 use lib.ListN.{length}
 use borrow.Author.Tests.{not-true, not-false}
 use Rattle.modular.specs.Arithmetic.{allWords}
-use Rattle.modular.specs.Goldilocks.{p}
 use Rattle.modular.proofs.Words.{none-words}
 use Rattle.merkle.specs.Numbering.{gather}
 use Rattle.merkle.proofs.Numbering.{opening-gather}
-use Rattle.trees.specs.Shapes.{tree}
+use Rattle.trees.specs.Shapes.{primeOfTree, tree}
 use Rattle.trees.proofs.Shapes.{countable, regular}
 use Rattle.trees.proofs.Ascent.{Over, over-leaf, own-place, over-row, over-small, over-next}
 use Rattle.trees.proofs.Siblings.{gather-none, level-words, level-fails, opening-any}
@@ -19,7 +18,7 @@ use Rattle.trees.proofs.openings.opening_is_words.Statement.{statement}
 use Rattle.trees.proofs.openings.opening_is_words.Tie as tie
 
 abbrev Inv-loop : tie.InvT-loop
-Inv-loop d store place arity height leaves number₀ level₀ number level = (Over d [] [] (length store) place level number) × (allWords p (gather (tree d [] []) (d .arity ^ d .height) place store level) ≡ true)
+Inv-loop d store place arity height leaves number₀ level₀ number level = (Over d [] [] (length store) place level number) × (allWords (primeOfTree d) (gather (tree d [] []) (d .arity ^ d .height) place store level) ≡ true)
 
 abbrev μ-loop : tie.MeasureT-loop
 μ-loop d store place arity height leaves number₀ level₀ number level = d .height - level
@@ -32,7 +31,7 @@ loop-holds c =
     let i = c .before .before in
     let a = i .args in (
       over-leaf (i .pre .0) (i .pre .1 [] []) (i .pre .2),
-      ap (allWords p) (gather-none (tree (a .d) [] []) (a .d .arity ^ a .d .height) (a .place) (a .store .now)) ∙ none-words p,
+      ap (allWords _) (gather-none (tree (a .d) [] []) (a .d .arity ^ a .d .height) (a .place) (a .store .now)) ∙ none-words _,
     )
 
 div-n : tie.Need-div-n Inv-loop μ-loop
@@ -52,8 +51,8 @@ returns c =
     let l = c .before .before .before in
     let a = c .before .before .before .before .before .before .args in
     let b : l .loop .level < a .d .height = c .before .before .loop-test .taken in
-    λ D C. level-fails (a .store .now) (l .loop .inv .0) b p (sym (c .before .siblings-are-words .ensures [] []) ∙ not-true (c .before .siblings-are-words .result) (c .if1 .taken))
-    ∙ ap (allWords p) (opening-any (a .d) D C (a .place) (a .store .now))
+    λ D C. level-fails (a .store .now) (l .loop .inv .0) b _ (sym (c .before .siblings-are-words .ensures [] []) ∙ not-true (c .before .siblings-are-words .result) (c .if1 .taken))
+    ∙ ap (allWords _) (opening-any (a .d) D C (a .place) (a .store .now))
 
 add-number : tie.Need-add-number Inv-loop μ-loop
 add-number c =
@@ -73,7 +72,7 @@ loop-again c =
     let a = c .before .before .before .before .before .before .args in
     let b : l .loop .level < a .d .height = c .before .before .loop-test .taken in (
       over-next (l .loop .inv .0) b (c .before .before .before .before .leaf-count .result) (c .before .before .before .before .leaf-count .ensures),
-      level-words (a .store .now) (l .loop .inv .0) b p (l .loop .inv .1) (sym (c .before .siblings-are-words .ensures [] []) ∙ not-false (c .before .siblings-are-words .result) (c .if1 .left)),
+      level-words (a .store .now) (l .loop .inv .0) b _ (l .loop .inv .1) (sym (c .before .siblings-are-words .ensures [] []) ∙ not-false (c .before .siblings-are-words .result) (c .if1 .left)),
     )
 
 returns-2 : tie.Need-returns-2 Inv-loop μ-loop
@@ -82,7 +81,7 @@ returns-2 c =
     let a = c .before .before .before .before .args in
     let O = l .loop .inv .0 in
     let e : l .loop .level ≡ a .d .height = omega (arith, O .levels, c .loop-test .left) in
-    λ D C. sym (ap (allWords p)
+    λ D C. sym (ap (allWords _)
     (sym (opening-any (a .d) D C (a .place) (a .store .now))
     ∙ opening-gather (tree (a .d) [] []) (regular (O .numbers) [] []) (a .d .height) (a .place) (O .inside) (a .store .now) (O .whole)
     ∙ ap (gather (tree (a .d) [] []) (a .d .arity ^ a .d .height) (a .place) (a .store .now)) (sym e)) ∙ l .loop .inv .1)

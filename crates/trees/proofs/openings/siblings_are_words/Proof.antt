@@ -2,7 +2,6 @@ use mathlib.Core.Path.{sym, _∙_}
 use Prim.Native.Nat.{_+_, _*_, _-_}
 use native.Mathlib.Omega.{arith}
 use borrow.Author.Tests.{not-true, not-false}
-use Rattle.modular.specs.Goldilocks.{p}
 use Rattle.trees.specs.Shapes.{tree}
 use Rattle.trees.proofs.Shapes.{regular, room}
 use Rattle.trees.proofs.Siblings.{siblings-fail, siblings-rest}
@@ -60,7 +59,7 @@ returns c =
     let i = c .before .before .before .before .before in
     let a = i .args in
     let t = a .n * (a .d .arity * a .d .«node_size») in
-    λ D C. siblings-fail (tree (a .d) D C) (regular (i .pre .0) D C) (a .n) (a .c) (a .store .now) (i .pre .2) (i .pre .1) p (t + a .c * a .d .«node_size» - t) (omega arith)
+    λ D C. siblings-fail (tree (a .d) D C) (regular (i .pre .0) D C) (a .n) (a .c) (a .store .now) (i .pre .2) (i .pre .1) _ (t + a .c * a .d .«node_size» - t) (omega arith)
     (sym (c .before .all-words .ensures) ∙ not-true (c .before .all-words .result) (c .if1 .taken))
 
 mul-all-words-2 : tie.Need-mul-all-words-2
@@ -95,7 +94,7 @@ returns-2 c =
     let l = a .d .«node_size» in
     let t = a .n * (k * l) in
     λ D C. c .all-words2 .ensures
-    ∙ siblings-rest (tree (a .d) D C) (regular (i .pre .0) D C) (a .n) (a .c) (a .store .now) (i .pre .2) (i .pre .1) p (t + a .c * l - t) (t + k * l - (t + a .c * l + l)) (omega arith) (omega arith)
+    ∙ siblings-rest (tree (a .d) D C) (regular (i .pre .0) D C) (a .n) (a .c) (a .store .now) (i .pre .2) (i .pre .1) _ (t + a .c * l - t) (t + k * l - (t + a .c * l + l)) (omega arith) (omega arith)
     (sym (c .before .before .before .all-words .ensures) ∙ not-false (c .before .before .before .all-words .result) (c .before .before .if1 .left))
 
 pub siblings-are-words-spec : {M : Type 1} → statement M

@@ -2,7 +2,6 @@ use mathlib.Core.Path.{_≡_, ap, _∙_}
 use Prim.Native.Nat.{ℕ, _*_, _-_}
 use native.Mathlib.Omega.{arith}
 use borrow.Author.Needs.{needs}
-use Rattle.modular.specs.Goldilocks.{p}
 use Rattle.merkle.specs.Lists.{part}
 use Rattle.merkle.specs.Openings.{siblingsAt, siblingSize}
 use Rattle.trees.specs.declared.Dimensions.{Dimensions}
@@ -22,14 +21,14 @@ part-size-requires c κs =
     (tree-of.arity-some _ z, tree-of.arity-few _ z, omega (arith, tree-of.size-fits _ z, tree-of.width-fits _ z))
 
 -- the size that the code has is that of a level's siblings
-size-is : (c : tie.After-part-size) → c .part-size .result ≡ siblingSize (treeOf p (c .before .before .before .args .set))
+size-is : (c : tie.After-part-size) → c .part-size .result ≡ siblingSize (treeOf (c .before .before .before .args .set))
 size-is c = c .part-size .ensures ∙ ap (λ (d : Dimensions). (d .arity - 1) * d .«node_size») (c .before .dimensions .ensures)
 
 cut-requires : tie.Need-cut-requires
 cut-requires c κs =
     let s = c .before .before .before .args .set in
     let z = c .before .before .before .pre in
-    rw (size-is c) (omega (arith, z .1, within (siblingSize (treeOf p s)) (z .2)))
+    rw (size-is c) (omega (arith, z .1, within (siblingSize (treeOf s)) (z .2)))
 
 returns : tie.Need-returns
 unfolding siblingsAt

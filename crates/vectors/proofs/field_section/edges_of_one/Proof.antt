@@ -12,5 +12,5 @@ abbrev μ-loop : tie.MeasureT-loop
 pub edges-of-one-spec : {M : Type 1} → statement M
 edges-of-one-spec =
     tie.close
-    (tie.spec Inv-loop μ-loop (λ c. search needs) (λ c. search needs) (λ c. search needs) (λ c. search needs) (λ c. search needs)
+    (tie.spec Inv-loop μ-loop (λ c. search needs) (λ c. search needs) (λ c. search needs) (λ c. search needs)
     (λ c. search needs) (λ c. search needs) (λ c. search needs))

@@ -1,0 +1,2 @@
+-- The facts of the prime in use.
+pub mod Prime

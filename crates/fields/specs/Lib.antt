@@ -1,0 +1,2 @@
+-- The prime in use.
+pub mod Prime

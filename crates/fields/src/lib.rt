@@ -1,0 +1,96 @@
+// The field of the prime in use, by which the other crates reach a core. Another core is chosen here and in `permutations`, and nowhere else.
+ghost use mathlib.Core.Path.{_≡_};
+ghost use Prim.Native.Nat.{_+_, _*_, _-_, _%_, _<_};
+ghost use Rattle.modular.specs.Arithmetic.{add, sub, mul, pow, inverse, seventhRoot};
+ghost use Rattle.modular.specs.Congruence.{_≈⟨_⟩_};
+ghost use Rattle.fields.specs.Prime.{prime};
+
+// The prime itself: a number below it is a word.
+pub fn order() -> u64
+    ensures { λ r. ⌜ r ≡ prime ⌝ }
+{
+    field::P
+}
+
+pub fn sum(a: u64, b: u64) -> u64
+    requires { ⌜ (a < prime) × (b < prime) ⌝ }
+    ensures { λ r. ⌜ r ≡ add prime a b ⌝ }
+{
+    field::sum(a, b)
+}
+
+pub fn difference(a: u64, b: u64) -> u64
+    requires { ⌜ (a < prime) × (b < prime) ⌝ }
+    ensures { λ r. ⌜ r ≡ sub prime a b ⌝ }
+{
+    field::difference(a, b)
+}
+
+// The product of any two numbers, as a word.
+pub fn product(a: u64, b: u64) -> u64
+    ensures { λ r. ⌜ r ≡ mul prime a b ⌝ }
+{
+    field::product(a, b)
+}
+
+// A power of any number, as a word.
+pub fn power(base: u64, exponent: u64) -> u64
+    ensures { λ r. ⌜ r ≡ pow prime base exponent ⌝ }
+{
+    field::power(base, exponent)
+}
+
+// The inverse of a word that is not 0.
+pub fn inverse(x: u64) -> u64
+    requires { ⌜ (0 < x) × (x < prime) ⌝ }
+    ensures { λ r. ⌜ r ≡ inverse prime x ⌝ }
+{
+    field::inverse(x)
+}
+
+// The word whose seventh power is y.
+pub fn seventh_root(y: u64) -> u64
+    requires { ⌜ y < prime ⌝ }
+    ensures { λ r. ⌜ r ≡ seventhRoot prime y ⌝ }
+{
+    field::seventh_root(y)
+}
+
+// Lazy numbers: any number of 64 bits stands for its residue. A product, and one with a summand.
+pub fn lazy_product(a: u64, b: u64) -> u64
+    ensures { λ r. ⌜ r ≈⟨ prime ⟩ a * b ⌝ }
+{
+    field::lazy::product(a, b)
+}
+
+pub fn lazy_product_sum(a: u64, b: u64, c: u64) -> u64
+    ensures { λ r. ⌜ r ≈⟨ prime ⟩ c + a * b ⌝ }
+{
+    field::lazy::product_sum(a, b, c)
+}
+
+// The word that a lazy number stands for.
+pub fn residue(x: u64) -> u64
+    ensures { λ r. ⌜ r ≡ x % prime ⌝ }
+{
+    field::lazy::residue(x)
+}
+
+// The inverse of 8, and minus the inverses of 3 and of 4.
+pub fn eighth() -> u64
+    ensures { λ r. ⌜ r ≡ inverse prime (8 % prime) ⌝ }
+{
+    field::parts::eighth()
+}
+
+pub fn minus_third() -> u64
+    ensures { λ r. ⌜ r ≡ prime - inverse prime (3 % prime) % prime ⌝ }
+{
+    field::parts::minus_third()
+}
+
+pub fn minus_quarter() -> u64
+    ensures { λ r. ⌜ r ≡ prime - inverse prime (4 % prime) % prime ⌝ }
+{
+    field::parts::minus_quarter()
+}
