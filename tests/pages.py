@@ -1,6 +1,7 @@
 """Holds the pages to what they speak of: a program that a page shows is the one that is run and prints what the reference does, a link
-leads to a file, the header, the exported functions and the bindings name the same functions, and every copy of the published numbers is
-that of the reference. The last line counts the checks."""
+leads to a file, the header, the exported functions and the bindings name the same functions, every copy of the published numbers is that of
+the reference, every entry of docs/ENTRIES.md has two must-fail edits named for it, and outside the crates that CONTRIBUTING.md says may
+know it nothing names the prime. The last line counts the checks."""
 import pathlib
 import re
 import subprocess
@@ -59,6 +60,20 @@ check(declared == exported, f"the header and the exported functions differ: {sor
 check(bound == exported, f"the bindings and the exported functions differ: {sorted(bound ^ exported)}")
 check(called == exported | inlined, f"tests/link.c does not call each function: {sorted(called ^ (exported | inlined))}")
 
+entries = re.findall(r"^\| `(\w+)\(", read("docs/ENTRIES.md"), re.M)
+check(len(entries) > 20, "docs/ENTRIES.md has no entries")
+for entry in entries:
+    edits = list(ROOT.glob(f"crates/*/must-fail/{entry}-*.edit"))
+    check(len(edits) > 1, f"{entry} has {len(edits)} must-fail edits named for it")
+
+KNOW_THE_PRIME = {"modular", "field", "layers", "permutation", "fields"}
+NAMES = re.compile(r"Goldilocks|goldilocks|18446744069414584321|(?<!\w)(field|layers)::")
+crates = {line.split(":")[0] for line in read("crates.txt").splitlines() if line and not line.startswith("#")}
+check(KNOW_THE_PRIME < crates, "crates.txt lacks a crate that knows the prime")
+for crate in sorted(crates - KNOW_THE_PRIME):
+    named = [path.relative_to(ROOT) for path in sorted((ROOT / "crates" / crate).rglob("*"))
+             if path.suffix in (".rt", ".antt") and NAMES.search(path.read_text(encoding="utf-8"))]
+    check(not named, f"the prime is named in {', '.join(map(str, named))}")
 
 RUST, HEADER = "bindings/rust/src/published.rs", "include/opening_tree_published.h"
 
