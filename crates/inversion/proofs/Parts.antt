@@ -26,10 +26,6 @@ unm4-code x e k a b c d f g h i =
 abbrev pub part-of : ℕ → ℕ
 part-of n = negative prime (inverse prime ((1 + n) % prime))
 
-pub minus-third : {r : ℕ} → r ≡ prime - inverse prime (3 % prime) % prime → r ≡ part-of 2
+pub as-part : (n : ℕ) {r : ℕ} → r ≡ prime - inverse prime ((1 + n) % prime) % prime → r ≡ part-of n
 unfolding negative
-minus-third e = e
-
-pub minus-quarter : {r : ℕ} → r ≡ prime - inverse prime (4 % prime) % prime → r ≡ part-of 3
-unfolding negative
-minus-quarter e = e
+as-part n e = e

@@ -7,7 +7,7 @@ use lib.ListN.{length}
 use Rattle.fields.specs.Prime.{prime}
 use Rattle.poseidon2.specs.Inverse.{scaled}
 use Rattle.poseidon2.proofs.Words.{cons-eq}
-use Rattle.inversion.proofs.Parts.{part-of, minus-third, minus-quarter}
+use Rattle.inversion.proofs.Parts.{part-of, as-part}
 use Rattle.inversion.proofs.Blocks.{scaled-four}
 use Rattle.inversion.proofs.external.share.Statement.{statement}
 use Rattle.inversion.proofs.external.share.Tie as tie
@@ -26,7 +26,7 @@ returns c =
     let two : length xs ≡ 8 → 2 ≡ length xs / 4 = λ h. omega arith in
     let three : (length xs ≡ 8 → ⊥) → 3 ≡ length xs / 4 = λ h. ⊎-elim (λ g. absurd (h g)) (λ g. omega arith) (s .pre .0) in
     let k : j .if1 .part ≡ part-of (length xs / 4) =
-    ⊎-elim (λ w. w .2 ∙ minus-third (w .1 .ensures) ∙ ap part-of (two (w .0 .taken))) (λ w. w .2 ∙ minus-quarter (w .1 .ensures) ∙ ap part-of (three (w .0 .left))) (j .if1 .came) in
+    ⊎-elim (λ w. w .2 ∙ as-part 2 (w .1 .ensures) ∙ ap part-of (two (w .0 .taken))) (λ w. w .2 ∙ as-part 3 (w .1 .ensures) ∙ ap part-of (three (w .0 .left))) (j .if1 .came) in
     cons-eq (c .before .before .before .product .ensures) (cons-eq (c .before .before .product2 .ensures) (cons-eq (c .before .product3 .ensures) (cons-eq (c .product4 .ensures) refl)))
     ∙ scaled-four prime (j .if1 .part) (u .sum-blocks .result) (omega arith)
     ∙ ap₂ (scaled prime) k (u .sum-blocks .ensures)
