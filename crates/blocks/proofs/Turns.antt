@@ -6,7 +6,7 @@ use native.Mathlib.Nat.{add-zero, mul-add, mul-one, mul-zero, mod-mod}
 use native.Mathlib.Numerals.{add-one}
 use native.Mathlib.Omega.{arith}
 use lib.ListN.{length, getD, take, drop}
-use lib.Seq.{getD-take, getD-drop, take-add, drop-drop, drop-cons}
+use lib.Seq.{getD-take, getD-drop, take-add, drop-drop}
 use Rattle.modular.specs.Arithmetic.{add, pow}
 use Rattle.modular.specs.Congruence.{_≈⟨_⟩_}
 use Rattle.modular.proofs.Congruence.{refl≈, mod≈, add≈}
@@ -191,14 +191,6 @@ module _ (p : ℕ) where
       ∙ sym (permute-at p t half rp D C xs lx)
 
 -- ---- loading
-
-pub four-from : (xs : List ℕ) (k : ℕ) → k + 4 ≤ length xs
-    → getD xs k 0 ∷ getD xs (k + 1) 0 ∷ getD xs (k + 2) 0 ∷ getD xs (k + 3) 0 ∷ [] ≡ take 4 (drop k xs)
-four-from xs k h =
-    let one : k + 1 ≡ suc k = omega arith in
-    let two : k + 2 ≡ suc (suc k) = omega arith in
-    let three : k + 3 ≡ suc (suc (suc k)) = omega arith in
-    rw (one, two, three, drop-cons xs k 0 (omega arith), drop-cons xs (suc k) 0 (omega arith), drop-cons xs (suc (suc k)) 0 (omega arith), drop-cons xs (suc (suc (suc k))) 0 (omega arith))
 
 -- four and n more
 pub more-from : (n k : ℕ) (xs : List ℕ) → take 4 (drop k xs) ++ take n (drop (k + 4) xs) ≡ take (4 + n) (drop k xs)

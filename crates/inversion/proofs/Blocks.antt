@@ -6,28 +6,15 @@ use Prim.Native.Nat.{ℕ, suc, _+_, _*_, _/_, _%_, _<_, _≤_}
 use native.Mathlib.Nat.{add-zero, mod-eq-of-lt}
 use native.Mathlib.Omega.{arith}
 use lib.ListN.{length, getD, take, drop, set, length-append, length-drop, drop-of-length-le}
-use lib.Seq.{sets-eq, take-at, drop-at, take-all, length-take-le, drop-drop, drop-length, drop-cons, getD-drop}
+use lib.Seq.{sets-eq, take-at, drop-at, take-all, length-take-le, drop-drop, drop-length, getD-drop}
 use Rattle.modular.specs.Arithmetic.{add, mul, inverse}
+use Rattle.modular.proofs.Fours.{from-four}
 use Rattle.modular.proofs.Ring.{var, num, _⊕_, _⊗_, rem, same?, ring}
 use Rattle.poseidon2.specs.Layers.{addLists, dot, rowsTimes, blocks, joinBlocks, sumBlocks, addToEach}
 use Rattle.poseidon2.specs.Inverse.{negative, scaled, unm4Rows, unm4, unmixed, unexternal}
 use Rattle.poseidon2.specs.Statements.{Width, Words}
 use Rattle.poseidon2.proofs.Words.{cons-eq, words-none, words-more, words-take, addLists-words}
 use Rattle.poseidon2.proofs.External.{blocks-length, by-width}
-
--- the four numbers from place i on, and what follows them
-from-four : (xs : List ℕ) (i : ℕ) → i + 4 ≤ length xs
-    → drop i xs ≡ getD xs i 0 ∷ getD xs (i + 1) 0 ∷ getD xs (i + 2) 0 ∷ getD xs (i + 3) 0 ∷ drop (i + 4) xs
-from-four xs i h =
-    let one : i + 1 ≡ suc i = omega arith in
-    let two : i + 2 ≡ suc (suc i) = omega arith in
-    let three : i + 3 ≡ suc (suc (suc i)) = omega arith in
-    let four : i + 4 ≡ suc (suc (suc (suc i))) = omega arith in
-    rw (one, two, three, four, drop-cons xs i 0 (omega arith), drop-cons xs (suc i) 0 (omega arith), drop-cons xs (suc (suc i)) 0 (omega arith), drop-cons xs (suc (suc (suc i))) 0 (omega arith))
-
-pub four-at : (xs : List ℕ) (i : ℕ) → i + 4 ≤ length xs
-    → take 4 (drop i xs) ≡ getD xs i 0 ∷ getD xs (i + 1) 0 ∷ getD xs (i + 2) 0 ∷ getD xs (i + 3) 0 ∷ []
-four-at xs i h = ap (take 4) (from-four xs i h)
 
 pub blocks-at : (xs : List ℕ) (i : ℕ) → i + 4 ≤ length xs → blocks (drop i xs) ≡ take 4 (drop i xs) ∷ blocks (drop (i + 4) xs)
 unfolding blocks

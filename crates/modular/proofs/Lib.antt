@@ -1,4 +1,5 @@
 -- The laws of numbers modulo p, and of the powers and products that code makes step by step.
+pub mod Fours
 pub mod Words
 pub mod Congruence
 pub mod Powers

@@ -1,13 +1,14 @@
 -- Lists of words, and tests of two parts.
-use mathlib.Core.Path.{_≡_, refl, ap, _∙_}
-use mathlib.Core.Bool.{Bool, true, false, _&&_, false≢true}
+use mathlib.Core.Path.{_≡_, refl, sym, ap, _∙_}
+use mathlib.Core.Bool.{Bool, true, false, _&&_, false≢true, and-assoc}
 use mathlib.Core.List.{List, [], _∷_, _++_}
-use Prim.Native.Nat.{ℕ, zero, suc, _≤_, _<_}
+use Prim.Native.Nat.{ℕ, zero, suc, _+_, _≤_, _<_}
 use native.Mathlib.Omega.{arith}
 use lib.Dec.{ltb}
 use lib.ListN.{length, getD, take, drop, take-append-drop}
 use borrow.Author.Tests.{lt-ltb, le-ltb, ltb-true}
 use Rattle.modular.specs.Arithmetic.{isWord, allWords}
+use Rattle.modular.proofs.Fours.{fourAt, from-four}
 
 pub and-true : (a b : Bool) → a ≡ true → b ≡ true → (a && b) ≡ true
 and-true a b e f = rw (e, f)
@@ -34,22 +35,24 @@ module _ (p : ℕ) where
   unfolding allWords
   not-word-first a xs h = rw (le-ltb a p h)
 
-  pub words-append : (xs ys : List ℕ) → allWords p xs ≡ true → allWords p ys ≡ true → allWords p (xs ++ ys) ≡ true
+  -- a list of two parts is tested by its parts
+  pub words-both : (xs ys : List ℕ) → allWords p (xs ++ ys) ≡ (allWords p xs && allWords p ys)
   unfolding allWords
-  words-append [] ys e f = f
-  words-append (x ∷ xs) ys e f =
-      and-true (isWord p x) (allWords p (xs ++ ys)) (left-true (isWord p x) (allWords p xs) e) (words-append xs ys (right-true (isWord p x) (allWords p xs) e) f)
+  words-both [] ys = refl
+  words-both (x ∷ xs) ys = ap (λ (b : Bool). isWord p x && b) (words-both xs ys) ∙ sym (and-assoc (isWord p x) (allWords p xs) (allWords p ys))
+
+  pub words-append : (xs ys : List ℕ) → allWords p xs ≡ true → allWords p ys ≡ true → allWords p (xs ++ ys) ≡ true
+  words-append xs ys e f = words-both xs ys ∙ and-true (allWords p xs) (allWords p ys) e f
 
   pub words-left : (xs ys : List ℕ) → allWords p (xs ++ ys) ≡ true → allWords p xs ≡ true
-  unfolding allWords
-  words-left [] ys e = refl
-  words-left (x ∷ xs) ys e =
-      and-true (isWord p x) (allWords p xs) (left-true (isWord p x) (allWords p (xs ++ ys)) e) (words-left xs ys (right-true (isWord p x) (allWords p (xs ++ ys)) e))
+  words-left xs ys e = left-true (allWords p xs) (allWords p ys) (sym (words-both xs ys) ∙ e)
 
   pub words-right : (xs ys : List ℕ) → allWords p (xs ++ ys) ≡ true → allWords p ys ≡ true
-  unfolding allWords
-  words-right [] ys e = e
-  words-right (x ∷ xs) ys e = words-right xs ys (right-true (isWord p x) (allWords p (xs ++ ys)) e)
+  words-right xs ys e = right-true (allWords p xs) (allWords p ys) (sym (words-both xs ys) ∙ e)
+
+  -- four numbers of a list are tested by themselves, and then what follows them
+  pub words-four : (xs : List ℕ) (i : ℕ) → i + 4 ≤ length xs → allWords p (drop i xs) ≡ (allWords p (fourAt xs i) && allWords p (drop (i + 4) xs))
+  words-four xs i h = ap (allWords p) (from-four xs i h) ∙ words-both (fourAt xs i) (drop (i + 4) xs)
 
   pub words-at : (xs : List ℕ) (i : ℕ) → allWords p xs ≡ true → i < length xs → getD xs i 0 < p
   unfolding allWords isWord

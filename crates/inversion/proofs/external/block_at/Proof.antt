@@ -1,6 +1,6 @@
 use mathlib.Core.Path.{sym}
 use borrow.Author.Needs.{needs}
-use Rattle.inversion.proofs.Blocks.{four-at}
+use Rattle.modular.proofs.Fours.{four-at}
 use Rattle.inversion.proofs.external.block_at.Statement.{statement}
 use Rattle.inversion.proofs.external.block_at.Tie as tie
 
