@@ -1,14 +1,17 @@
 -- A test of every number of a list, from its front on, and lists with a 0 or none.
 use mathlib.Core.Path.{_≡_, sym, ap, _∙_}
-use mathlib.Core.Bool.{Bool, true, false, _||_, false≢true}
+use mathlib.Core.Bool.{Bool, true, false, not, _&&_, _||_, false≢true}
 use mathlib.Core.List.{List, [], _∷_}
-use Prim.Native.Nat.{ℕ, zero, suc, _+_, _≤_, _<_}
+use Prim.Native.Nat.{ℕ, zero, suc, _+_, _-_, _≤_, _<_}
 use native.Mathlib.Numerals.{add-one}
 use native.Mathlib.Omega.{arith}
 use lib.Dec.{eqb}
-use lib.ListN.{length, getD, drop, drop-of-length-le}
-use lib.Seq.{drop-cons}
-use borrow.Author.Tests.{eq-eqb, ne-eqb}
+use lib.ListN.{length, getD, take, drop, length-drop, drop-of-length-le}
+use lib.Seq.{take-all, drop-cons}
+use borrow.Author.Tests.{eq-eqb, ne-eqb, not-true, not-false}
+use Rattle.modular.specs.Arithmetic.{allWords}
+use Rattle.modular.proofs.Fours.{fourAt}
+use Rattle.modular.proofs.Words.{words-four}
 use Rattle.parameters.specs.Refusals.{hasZero}
 
 -- The loop that tests a list and stops where a number decides: those before i have not.
@@ -25,6 +28,21 @@ module _ (test : List ℕ → Bool) (xs : List ℕ) (i : ℕ) (U : Undecided tes
 
   pub decided-end : length xs ≤ i → test xs ≡ test []
   decided-end h = U .1 ∙ ap test (drop-of-length-le xs h)
+
+  -- the part from i on decides
+  pub decided-rest : test (take (length xs - i) (drop i xs)) ≡ test xs
+  decided-rest = ap test (take-all (length xs - i) (drop i xs) (simp length-drop (omega arith))) ∙ sym (U .1)
+
+-- The loop that tests words four a turn: the four from i on, tested by the order, fail the list, or leave it to the rest.
+module _ (p : ℕ) (xs : List ℕ) (i : ℕ) (U : Undecided (allWords p) xs i) (h : i + 4 ≤ length xs) {order : ℕ} (o : order ≡ p) {b : Bool} (e : b ≡ allWords order (fourAt xs i)) where
+  four-left : {r : Bool} → b ≡ r → allWords p xs ≡ (r && allWords p (drop (i + 4) xs))
+  four-left f = U .1 ∙ words-four p xs i h ∙ ap (λ (r : Bool). r && allWords p (drop (i + 4) xs)) (sym (e ∙ ap (λ (q : ℕ). allWords q (fourAt xs i)) o) ∙ f)
+
+  pub four-fail : not b ≡ true → allWords p xs ≡ false
+  four-fail f = four-left (not-true b f)
+
+  pub four-pass : not b ≡ false → Undecided (allWords p) xs (i + 4)
+  four-pass f = (h, four-left (not-false b f))
 
 pub zero-first : (x : ℕ) (xs : List ℕ) → x ≡ 0 → hasZero (x ∷ xs) ≡ true
 unfolding hasZero

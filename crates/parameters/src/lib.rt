@@ -1,6 +1,7 @@
 // The parameter set and its validation (Rules 2).
 ghost use mathlib.Core.Path.{_≡_};
 ghost use mathlib.Core.Bool.{true, false};
+ghost use mathlib.Core.List.{[], _∷_};
 ghost use Prim.Native.Nat.{_≤_};
 ghost use lib.ListN.{length, take, getD};
 ghost use Rattle.modular.specs.Arithmetic.{allWords};
@@ -105,8 +106,27 @@ fn bad_height(arity: u64, height: u64) -> bool
     false
 }
 
-// Whether every number is a word.
-pub fn all_words(numbers: &[u64]) -> bool
+// Whether four numbers are below the order.
+fn four_words(order: u64, a: u64, b: u64, c: u64, d: u64) -> bool
+    ensures { λ r. ⌜ r ≡ allWords order (a ∷ b ∷ c ∷ d ∷ []) ⌝ }
+{
+    if order <= a {
+        return false;
+    }
+    if order <= b {
+        return false;
+    }
+    if order <= c {
+        return false;
+    }
+    if order <= d {
+        return false;
+    }
+    true
+}
+
+// Whether every number is a word, one a turn: for a short list, as the siblings of a node.
+pub fn few_words(numbers: &[u64]) -> bool
     ensures { λ r. ⌜ r ≡ allWords prime (now (numbers .entry)) ⌝ }
 {
     let order = fields::order();
@@ -118,6 +138,28 @@ pub fn all_words(numbers: &[u64]) -> bool
         i += 1;
     }
     true
+}
+
+// Whether every number is a word. A push tests a whole store by this: with four numbers a turn it matters little where the loop lies in
+// the code, and with one it did.
+pub fn all_words(numbers: &[u64]) -> bool
+    ensures { λ r. ⌜ r ≡ allWords prime (now (numbers .entry)) ⌝ }
+{
+    let order = fields::order();
+    let mut i = 0;
+    while 4 <= numbers.len() - i {
+        if !four_words(
+            order,
+            numbers[i],
+            numbers[i + 1],
+            numbers[i + 2],
+            numbers[i + 3],
+        ) {
+            return false;
+        }
+        i += 4;
+    }
+    few_words(&numbers[i..])
 }
 
 fn has_zero(numbers: &[u64]) -> bool

@@ -75,10 +75,10 @@ fn siblings_are_words(d: Dimensions, store: &[u64], n: usize, c: usize) -> bool
     let own = start + c * node_size;
     let behind = own + node_size;
     let end = start + width;
-    if !parameters::all_words(&store[start..own]) {
+    if !parameters::few_words(&store[start..own]) {
         return false;
     }
-    parameters::all_words(&store[behind..end])
+    parameters::few_words(&store[behind..end])
 }
 
 // Whether the opening is words: it reads what `open` copies.

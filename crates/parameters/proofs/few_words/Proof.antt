@@ -7,8 +7,8 @@ use Rattle.modular.specs.Arithmetic.{allWords}
 use Rattle.fields.specs.Prime.{prime}
 use Rattle.modular.proofs.Words.{none-words, word-first, not-word-first}
 use Rattle.parameters.proofs.Lists.{Undecided, decided, undecided, decided-end}
-use Rattle.parameters.proofs.all_words.Statement.{statement}
-use Rattle.parameters.proofs.all_words.Tie as tie
+use Rattle.parameters.proofs.few_words.Statement.{statement}
+use Rattle.parameters.proofs.few_words.Tie as tie
 
 abbrev Inv-loop : tie.InvT-loop
 Inv-loop numbers order i₀ i = Undecided (allWords prime) numbers i
@@ -32,8 +32,8 @@ loop-again c =
 returns-2 : tie.Need-returns-2 Inv-loop μ-loop
 returns-2 c = sym (decided-end (allWords prime) _ _ (c .before .loop .inv) (omega arith) ∙ none-words prime)
 
-pub all-words-spec : {M : Type 1} → statement M
-all-words-spec =
+pub few-words-spec : {M : Type 1} → statement M
+few-words-spec =
     tie.close
     (tie.spec Inv-loop μ-loop (λ c κs. search needs) loop-holds (λ c. search needs) (λ c. search needs) returns (λ c. search needs) (λ c. search needs)
     loop-again returns-2)

@@ -36,23 +36,23 @@ add-behind c =
 add-end : tie.Need-add-end
 add-end c = search needs
 
-mul-all-words : tie.Need-mul-all-words
-mul-all-words c = search needs
+mul-few-words : tie.Need-mul-few-words
+mul-few-words c = search needs
 
-sub-all-words : tie.Need-sub-all-words
-sub-all-words c = search needs
+sub-few-words : tie.Need-sub-few-words
+sub-few-words c = search needs
 
-part-all-words-start : tie.Need-part-all-words-start
-part-all-words-start c = search needs
+part-few-words-start : tie.Need-part-few-words-start
+part-few-words-start c = search needs
 
-part-all-words-end : tie.Need-part-all-words-end
-part-all-words-end c =
+part-few-words-end : tie.Need-part-few-words-end
+part-few-words-end c =
     let i = c .before .before in
     let r = room (i .pre .0) (i .args .c) (i .pre .2) in
     omega arith
 
-all-words-requires : tie.Need-all-words-requires
-all-words-requires c κs = search needs
+few-words-requires : tie.Need-few-words-requires
+few-words-requires c κs = search needs
 
 returns : tie.Need-returns
 returns c =
@@ -60,31 +60,31 @@ returns c =
     let a = i .args in
     let t = a .n * (a .d .arity * a .d .«node_size») in
     λ D C. siblings-fail (tree (a .d) D C) (regular (i .pre .0) D C) (a .n) (a .c) (a .store .now) (i .pre .2) (i .pre .1) _ (t + a .c * a .d .«node_size» - t) (omega arith)
-    (sym (c .before .all-words .ensures) ∙ not-true (c .before .all-words .result) (c .if1 .taken))
+    (sym (c .before .few-words .ensures) ∙ not-true (c .before .few-words .result) (c .if1 .taken))
 
-mul-all-words-2 : tie.Need-mul-all-words-2
-mul-all-words-2 c =
+mul-few-words-2 : tie.Need-mul-few-words-2
+mul-few-words-2 c =
     let i = c .before .before .before .before .before in
     let r = room (i .pre .0) (i .args .c) (i .pre .2) in
     omega arith
 
-sub-all-words-2 : tie.Need-sub-all-words-2
-sub-all-words-2 c =
+sub-few-words-2 : tie.Need-sub-few-words-2
+sub-few-words-2 c =
     let i = c .before .before .before .before .before in
     let r = room (i .pre .0) (i .args .c) (i .pre .2) in
     omega arith
 
-part-all-words-start-2 : tie.Need-part-all-words-start-2
-part-all-words-start-2 c =
+part-few-words-start-2 : tie.Need-part-few-words-start-2
+part-few-words-start-2 c =
     let i = c .before .before .before .before .before in
     let r = room (i .pre .0) (i .args .c) (i .pre .2) in
     omega arith
 
-part-all-words-end-2 : tie.Need-part-all-words-end-2
-part-all-words-end-2 c = search needs
+part-few-words-end-2 : tie.Need-part-few-words-end-2
+part-few-words-end-2 c = search needs
 
-all-words-requires-2 : tie.Need-all-words-requires-2
-all-words-requires-2 c κs = search needs
+few-words-requires-2 : tie.Need-few-words-requires-2
+few-words-requires-2 c κs = search needs
 
 returns-2 : tie.Need-returns-2
 returns-2 c =
@@ -93,9 +93,9 @@ returns-2 c =
     let k = a .d .arity in
     let l = a .d .«node_size» in
     let t = a .n * (k * l) in
-    λ D C. c .all-words2 .ensures
+    λ D C. c .few-words2 .ensures
     ∙ siblings-rest (tree (a .d) D C) (regular (i .pre .0) D C) (a .n) (a .c) (a .store .now) (i .pre .2) (i .pre .1) _ (t + a .c * l - t) (t + k * l - (t + a .c * l + l)) (omega arith) (omega arith)
-    (sym (c .before .before .before .all-words .ensures) ∙ not-false (c .before .before .before .all-words .result) (c .before .before .if1 .left))
+    (sym (c .before .before .before .few-words .ensures) ∙ not-false (c .before .before .before .few-words .result) (c .before .before .if1 .left))
 
 pub siblings-are-words-spec : {M : Type 1} → statement M
 siblings-are-words-spec =
@@ -107,15 +107,15 @@ siblings-are-words-spec =
     add-own
     add-behind
     add-end
-    mul-all-words
-    sub-all-words
-    part-all-words-start
-    part-all-words-end
-    all-words-requires
+    mul-few-words
+    sub-few-words
+    part-few-words-start
+    part-few-words-end
+    few-words-requires
     returns
-    mul-all-words-2
-    sub-all-words-2
-    part-all-words-start-2
-    part-all-words-end-2
-    all-words-requires-2
+    mul-few-words-2
+    sub-few-words-2
+    part-few-words-start-2
+    part-few-words-end-2
+    few-words-requires-2
     returns-2)
