@@ -21,8 +21,11 @@ pub const NOT_A_WORD: u8 = 12;
 /// The numbers of a record: a place and six words.
 pub const RECORD: usize = 7;
 
+/// Four numbers a turn, as the library does it, and then the last few.
 fn all_words(numbers: &[u64]) -> bool {
-    numbers.iter().all(|&x| x < P)
+    let words = |numbers: &[u64]| numbers.iter().all(|&x| x < P);
+    let mut fours = numbers.chunks_exact(4);
+    fours.all(words) && words(fours.remainder())
 }
 
 fn bad_height(arity: u64, height: u64) -> bool {
