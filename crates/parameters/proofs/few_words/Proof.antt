@@ -19,15 +19,15 @@ abbrev μ-loop : tie.MeasureT-loop
 loop-holds : tie.Need-loop-holds Inv-loop μ-loop
 loop-holds c = (omega arith, refl)
 
-returns : tie.Need-returns Inv-loop μ-loop
-returns c =
-    let l = c .before .before .before in
-    sym (decided (allWords prime) _ _ (l .loop .inv) (omega arith) (not-word-first prime _ _ (rw (l .before .order .ensures) at (c .if1 .taken))))
-
 loop-again : tie.Need-loop-again Inv-loop μ-loop
 loop-again c =
     let l = c .before .before .before in
     undecided (allWords prime) _ _ (l .loop .inv) (omega arith) (word-first prime _ _ (rw (l .before .order .ensures) at (c .if1 .left)))
+
+returns : tie.Need-returns Inv-loop μ-loop
+returns c =
+    let l = c .before .before .before in
+    sym (decided (allWords prime) _ _ (l .loop .inv) (omega arith) (not-word-first prime _ _ (rw (l .before .order .ensures) at (c .if1 .taken))))
 
 returns-2 : tie.Need-returns-2 Inv-loop μ-loop
 returns-2 c = sym (decided-end (allWords prime) _ _ (c .before .loop .inv) (omega arith) ∙ none-words prime)

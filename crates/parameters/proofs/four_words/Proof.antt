@@ -12,18 +12,18 @@ returns-2 c = sym (word-first _ _ _ (c .before .if1 .left) ∙ not-word-first _ 
 returns-3 : tie.Need-returns-3
 returns-3 c = sym (word-first _ _ _ (c .before .before .if1 .left) ∙ word-first _ _ _ (c .before .if2 .left) ∙ not-word-first _ _ _ (c .if3 .taken))
 
-returns-4 : tie.Need-returns-4
-returns-4 c =
-    sym (
-    word-first _ _ _ (c .before .before .before .if1 .left) ∙ word-first _ _ _ (c .before .before .if2 .left) ∙ word-first _ _ _ (c .before .if3 .left)
-    ∙ not-word-first _ _ _ (c .if4 .taken)
-    )
-
 returns-5 : tie.Need-returns-5
 returns-5 c =
     sym (
     word-first _ _ _ (c .before .before .before .if1 .left) ∙ word-first _ _ _ (c .before .before .if2 .left) ∙ word-first _ _ _ (c .before .if3 .left)
     ∙ word-first _ _ _ (c .if4 .left) ∙ none-words _
+    )
+
+returns-4 : tie.Need-returns-4
+returns-4 c =
+    sym (
+    word-first _ _ _ (c .before .before .before .if1 .left) ∙ word-first _ _ _ (c .before .before .if2 .left) ∙ word-first _ _ _ (c .before .if3 .left)
+    ∙ not-word-first _ _ _ (c .if4 .taken)
     )
 
 pub four-words-spec : {M : Type 1} → statement M
