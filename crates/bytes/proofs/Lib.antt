@@ -1,0 +1,3 @@
+-- The laws of numbers as bytes.
+pub mod Decimal
+pub mod LittleEndian

@@ -1,0 +1,1 @@
+// Mathematics only: numbers as bytes. The definitions stand in specs/, their laws in proofs/.
