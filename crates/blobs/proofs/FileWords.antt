@@ -57,7 +57,7 @@ module _ (size rate : ℕ) (pos : 0 < size) (some : 0 < rate) (contents : List �
 -- ---- which
 
 -- zeros at the end change no number that is read
-zero-beyond : (z i : ℕ) → getD {A = ℕ} (replicate z 0) i 0 ≡ 0
+pub zero-beyond : (z i : ℕ) → getD {A = ℕ} (replicate z 0) i 0 ≡ 0
 zero-beyond z i = by (decLt i z)
   where
     by : Dec (i < z) → getD {A = ℕ} (replicate z 0) i 0 ≡ 0

@@ -32,10 +32,10 @@ pub same-bytes : (n at to : ℕ) (xs ys : List ℕ) → ((i : ℕ) → i < n →
 same-bytes zero at to xs ys e = of-none (drop at xs) ∙ sym (of-none (drop to ys))
 same-bytes (suc n) at to xs ys e =
     let here : getD xs at 0 ≡ getD ys to 0 =
-        ap (λ (k : ℕ). getD xs k 0) (sym (add-zero at)) ∙ e 0 (omega arith) ∙ ap (λ (k : ℕ). getD ys k 0) (add-zero to) in
+    ap (λ (k : ℕ). getD xs k 0) (sym (add-zero at)) ∙ e 0 (omega arith) ∙ ap (λ (k : ℕ). getD ys k 0) (add-zero to) in
     let there : littleEndian (take n (drop (suc at) xs)) ≡ littleEndian (take n (drop (suc to) ys)) =
-        same-bytes n (suc at) (suc to) xs ys
-        (λ i h. ap (λ (k : ℕ). getD xs k 0) (suc-add at i ∙ sym (add-suc at i)) ∙ e (suc i) (omega arith) ∙ ap (λ (k : ℕ). getD ys k 0) (add-suc to i ∙ sym (suc-add to i))) in
+    same-bytes n (suc at) (suc to) xs ys
+    (λ i h. ap (λ (k : ℕ). getD xs k 0) (suc-add at i ∙ sym (add-suc at i)) ∙ e (suc i) (omega arith) ∙ ap (λ (k : ℕ). getD ys k 0) (add-suc to i ∙ sym (suc-add to i))) in
     byte-first n at xs ∙ ap₂ (λ (b c : ℕ). b + 256 * c) here there ∙ sym (byte-first n to ys)
 
 positive : (n : ℕ) → 0 < 256 ^ n
@@ -133,7 +133,7 @@ numbers-apart size zero xs ys h g l k e = of-length-zero xs (omega (arith, l, mu
 numbers-apart size (suc n) xs ys h g l k e =
     let next : size * suc n ≡ size * n + size = mul-suc size n in
     let first : take size xs ≡ take size ys = number-apart (take size xs) (take size ys) (words-take 256 size xs h) (words-take 256 size ys g)
-        (length-take-le size xs (omega arith) ∙ sym (length-take-le size ys (omega arith))) (ap (λ (zs : List ℕ). getD zs 0 0) e) in
+    (length-take-le size xs (omega arith) ∙ sym (length-take-le size ys (omega arith))) (ap (λ (zs : List ℕ). getD zs 0 0) e) in
     let others : drop size xs ≡ drop size ys = numbers-apart size n (drop size xs) (drop size ys) (words-drop 256 size xs h) (words-drop 256 size ys g)
-        (omega (arith, length-drop size xs)) (omega (arith, length-drop size ys)) (ap (drop 1) e) in
+    (omega (arith, length-drop size xs)) (omega (arith, length-drop size ys)) (ap (drop 1) e) in
     sym (take-append-drop size xs) ∙ ap₂ (λ (a b : List ℕ). a ++ b) first others ∙ take-append-drop size ys

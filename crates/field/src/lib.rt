@@ -11,6 +11,9 @@ use std::num::wrapping_sub_u64;
 
 pub const P: u64 = 18446744069414584321;
 
+// The bytes of a file that make a word: 2^56 is below p, and 2^64 is not.
+pub const WORD_BYTES: usize = 7;
+
 // 2^64 modulo p
 pub const EPSILON: u64 = 4294967295;
 

@@ -3,13 +3,20 @@ ghost use mathlib.Core.Path.{_≡_};
 ghost use Prim.Native.Nat.{_+_, _*_, _-_, _%_, _<_};
 ghost use Rattle.modular.specs.Arithmetic.{add, sub, mul, pow, inverse, seventhRoot};
 ghost use Rattle.modular.specs.Congruence.{_≈⟨_⟩_};
-ghost use Rattle.fields.specs.Prime.{prime};
+ghost use Rattle.fields.specs.Prime.{prime, wordBytes};
 
 // The prime itself: a number below it is a word.
 pub fn order() -> u64
     ensures { λ r. ⌜ r ≡ prime ⌝ }
 {
     field::P
+}
+
+// How many bytes make a word.
+pub fn word_bytes() -> usize
+    ensures { λ r. ⌜ r ≡ wordBytes ⌝ }
+{
+    field::WORD_BYTES
 }
 
 pub fn sum(a: u64, b: u64) -> u64

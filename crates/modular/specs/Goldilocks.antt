@@ -1,4 +1,4 @@
--- The prime in use, with the numbers of its certificate (Rules 1.1, 1.7).
+-- The prime in use, with the numbers of its certificate (Rules 1.1, 1.7) and the bytes that a word of it takes (Rules 7.8).
 use mathlib.Core.List.{List, [], _∷_}
 use Prim.Native.Nat.{ℕ}
 
@@ -16,3 +16,7 @@ factors = 2 ∷ 3 ∷ 5 ∷ 17 ∷ 257 ∷ 65537 ∷ []
 -- the power that the seventh root is (Rules 7.1)
 abbrev pub rootExponent : ℕ
 rootExponent = 10540996611094048183
+
+-- the bytes of a file that make a word
+abbrev pub bytesInWord : ℕ
+bytesInWord = 7

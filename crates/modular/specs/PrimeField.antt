@@ -2,7 +2,7 @@
 use mathlib.Core.Path.{_≡_}
 use mathlib.Core.Logic.{_⊎_}
 use mathlib.Core.List.{List}
-use Prim.Native.Nat.{ℕ, suc, _*_, _-_, _<_}
+use Prim.Native.Nat.{ℕ, suc, _*_, _-_, _^_, _<_, _≤_}
 use lib.Dec.{T}
 use Rattle.modular.specs.Arithmetic.{mul, pow, inverse, seventhRoot}
 use Rattle.modular.specs.Certificate.{certifies}
@@ -47,3 +47,9 @@ pub record PrimeLaws (p : ℕ) (F : PrimeField p) : Type 0 where
   pub inverses : Inverses p
   pub noZeroDivisors : NoZeroDivisors p
   pub seventhRoots : SeventhRoots p F
+
+-- How many bytes a word of p takes (Rules 7.8): all numbers of so many bytes are words, and not all of one byte more.
+pub record WordBytes (p size : ℕ) : Type 0 where
+  pub some : 0 < size
+  pub fit : 256 ^ size ≤ p
+  pub most : p < 256 ^ suc size

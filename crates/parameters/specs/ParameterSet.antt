@@ -5,7 +5,7 @@ use Prim.Native.Nat.{ℕ, _-_}
 use lib.Dec.{eqb}
 use lib.ListN.{length, take, replicate}
 use Rattle.refusals.specs.Table.{Refusal, firstRefusal}
-use Rattle.fields.specs.Prime.{prime}
+use Rattle.fields.specs.Prime.{prime, wordBytes}
 use Rattle.parameters.specs.Refusals.{constantCount, numberRefusals, shapeRefusals, listRefusals, validationRefusals}
 use Rattle.parameters.specs.declared.ParameterSet.{ParameterSet}
 use Rattle.parameters.specs.declared.Held.{Held}
@@ -14,6 +14,10 @@ use Rattle.parameters.specs.declared.Validation.{Validation}
 -- The prime of a set: today one for every set (Rules 1.1).
 abbrev pub primeOf : ParameterSet → ℕ
 primeOf s = prime
+
+-- How many bytes a word takes under a set (Rules 7.8).
+abbrev pub wordBytesOf : ParameterSet → ℕ
+wordBytesOf s = wordBytes
 
 -- A list in n places, with 0 beyond its end.
 unfoldable pub padded : ℕ → List ℕ → List ℕ

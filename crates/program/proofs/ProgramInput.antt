@@ -10,32 +10,8 @@ use lib.ListN.{length, take, drop, getD, set, length-drop, drop-of-length-le}
 use lib.Seq.{drop-drop, take-all, take-suc-set}
 use Rattle.parameters.specs.Refusals.{constantCount}
 use Rattle.parameters.specs.ParameterSet.{validation}
-use Rattle.program.specs.Program.{littleEndian, numbersOf}
-
-eight-bytes : (xs : List ℕ) → littleEndian (take 8 xs)
-    ≡ getD xs 0 0 + 256 * (getD xs 1 0 + 256 * (getD xs 2 0 + 256 * (getD xs 3 0 + 256 * (getD xs 4 0 + 256 * (getD xs 5 0 + 256 * (getD xs 6 0 + 256 * getD xs 7 0))))))
-unfolding littleEndian
-eight-bytes [] = refl
-eight-bytes (a ∷ []) = refl
-eight-bytes (a ∷ b ∷ []) = refl
-eight-bytes (a ∷ b ∷ c ∷ []) = refl
-eight-bytes (a ∷ b ∷ c ∷ d ∷ []) = refl
-eight-bytes (a ∷ b ∷ c ∷ d ∷ e ∷ []) = refl
-eight-bytes (a ∷ b ∷ c ∷ d ∷ e ∷ f ∷ []) = refl
-eight-bytes (a ∷ b ∷ c ∷ d ∷ e ∷ f ∷ g ∷ []) = refl
-eight-bytes (a ∷ b ∷ c ∷ d ∷ e ∷ f ∷ g ∷ h ∷ xs) = omega arith
-
-pub number-is : (xs : List ℕ) {a b c d e f g h : ℕ} → a ≡ getD xs 0 0 → b ≡ getD xs 1 0 → c ≡ getD xs 2 0 → d ≡ getD xs 3 0 → e ≡ getD xs 4 0 → f ≡ getD xs 5 0
-    → g ≡ getD xs 6 0 → h ≡ getD xs 7 0 → a + 256 * (b + 256 * (c + 256 * (d + 256 * (e + 256 * (f + 256 * (g + 256 * h)))))) ≡ littleEndian (take 8 xs)
-number-is xs i j k l m n o q = rw (i, j, k, l, m, n, o, q) (sym (eight-bytes xs))
-
-pub numbers-more : (n : ℕ) (bytes : List ℕ) → numbersOf (suc n) bytes ≡ numbersOf n bytes ++ (littleEndian (take 8 (drop (8 * n) bytes)) ∷ [])
-unfolding numbersOf
-numbers-more zero bytes = refl
-numbers-more (suc n) bytes =
-    let next : 8 + 8 * n ≡ 8 * suc n = omega arith in
-    let further : drop (8 * n) (drop 8 bytes) ≡ drop (8 * suc n) bytes = drop-drop (8 * n) 8 bytes ∙ ap (λ (k : ℕ). drop k bytes) next in
-    ap (λ (xs : List ℕ). littleEndian (take 8 bytes) ∷ xs) (numbers-more n (drop 8 bytes) ∙ ap (λ (xs : List ℕ). numbersOf n (drop 8 bytes) ++ (littleEndian (take 8 xs) ∷ [])) further)
+use Rattle.bytes.specs.Numbers.{littleEndian, numbersOf}
+use Rattle.bytes.proofs.LittleEndian.{numbers-more}
 
 -- t * R_F + R_P, where the list is no longer than it and where it is
 module _ (t rf rp most : ℕ) where
@@ -76,10 +52,10 @@ beyond-of n xs = by (decLt n (length xs))
     by (yes h) = ap (λ (k : ℕ). drop k xs) (min-eq-left {n = n} {m = length xs} (omega arith))
     by (no h) = ap (λ (k : ℕ). drop k xs) (min-eq-right {n = length xs} {m = n} (omega arith)) ∙ drop-of-length-le xs {i = length xs} (omega arith) ∙ sym (drop-of-length-le xs {i = n} (omega arith))
 
-pub decoded-more : (out bytes : List ℕ) (i v : ℕ) → i < length out → v ≡ littleEndian (take 8 (drop (8 * i) bytes)) → take i out ≡ numbersOf i bytes
-    → take (i + 1) (set out i v) ≡ numbersOf (i + 1) bytes
+pub decoded-more : (out bytes : List ℕ) (i v : ℕ) → i < length out → v ≡ littleEndian (take 8 (drop (8 * i) bytes)) → take i out ≡ numbersOf 8 i bytes
+    → take (i + 1) (set out i v) ≡ numbersOf 8 (i + 1) bytes
 decoded-more out bytes i v h e d =
-    rw (add-one, take-suc-set) (ap (λ (xs : List ℕ). xs ++ (v ∷ [])) d ∙ ap (λ (w : ℕ). numbersOf i bytes ++ (w ∷ [])) e ∙ sym (numbers-more i bytes))
+    rw (add-one, take-suc-set) (ap (λ (xs : List ℕ). xs ++ (v ∷ [])) d ∙ ap (λ (w : ℕ). numbersOf 8 i bytes ++ (w ∷ [])) e ∙ sym (numbers-more 8 i bytes))
 
 -- The part of a list from n on, to its end.
 pub to-end : (n : ℕ) (xs : List ℕ) → take (length xs - n) (drop n xs) ≡ drop n xs

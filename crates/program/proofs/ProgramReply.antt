@@ -24,7 +24,8 @@ use Rattle.state_entries.specs.declared.outcome.Outcome.the-variants.{Done, Ref
 use Rattle.state_entries.specs.Permutation.{outcomeReply}
 use Rattle.trees.specs.SetTrees.{treeOf, leafWords}
 use Rattle.tree_entries.specs.Trees.{has, storelessRefusals, storelessReply, storelessRooted}
-use Rattle.program.specs.Program.{readWidth, readNodeSize, readHeight, readFullRounds, readPartialRounds, readDiagonal, readConstants, readLeaves, readSet, readValidation, readRefusals, readRoot, badByteCount, programReply, numbersOf, lines, refusedLine, replyText, rootText, decimal, digits, EmptyInput}
+use Rattle.bytes.specs.Numbers.{numbersOf, digits, decimal}
+use Rattle.program.specs.Program.{readWidth, readNodeSize, readHeight, readFullRounds, readPartialRounds, readDiagonal, readConstants, readLeaves, readSet, readValidation, readRefusals, readRoot, badByteCount, programReply, lines, refusedLine, replyText, rootText, EmptyInput}
 
 -- Refusals that do not apply leave the reply to those after them.
 reply-back : (refusals more : List Refusal) (result : List ℕ) → Numbered refusals → firstRefusal refusals ≡ 0 → reply (refusals ++ more) result ≡ reply more result
@@ -194,11 +195,11 @@ pub text-of-bad-count : (bytes : List ℕ) → badByteCount (length bytes) ≡ t
 unfolding rootText programReply replyText
 text-of-bad-count bytes e = sym (ap replyText (applied 10 (badByteCount (length bytes)) _ _ e))
 
-pub text-of-numbers : (bytes ns : List ℕ) (n : ℕ) → badByteCount (length bytes) ≡ false → n ≡ length bytes / 8 → ns ≡ numbersOf n bytes
+pub text-of-numbers : (bytes ns : List ℕ) (n : ℕ) → badByteCount (length bytes) ≡ false → n ≡ length bytes / 8 → ns ≡ numbersOf 8 n bytes
     → replyText (reply (readRefusals ns) (readRoot ns)) ≡ rootText bytes
 unfolding rootText programReply
 text-of-numbers bytes ns n e i d =
-    ap (λ (xs : List ℕ). replyText (reply (readRefusals xs) (readRoot xs))) (d ∙ ap (λ (k : ℕ). numbersOf k bytes) i)
+    ap (λ (xs : List ℕ). replyText (reply (readRefusals xs) (readRoot xs))) (d ∙ ap (λ (k : ℕ). numbersOf 8 k bytes) i)
     ∙ sym (ap replyText (passed 10 (badByteCount (length bytes)) _ _ e))
 
 pub empty-input : EmptyInput

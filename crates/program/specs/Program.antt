@@ -1,10 +1,11 @@
 -- The root program (Rules 7.5, 7.6), from the bytes of its standard input to those of its standard output.
 use mathlib.Core.Path.{_≡_}
-use mathlib.Core.Bool.{Bool, cond, not, _||_}
+use mathlib.Core.Bool.{Bool, not, _||_}
 use mathlib.Core.List.{List, [], _∷_, _++_}
-use Prim.Native.Nat.{ℕ, zero, suc, _+_, _*_, _/_, _%_}
+use Prim.Native.Nat.{ℕ, _/_, _%_}
 use lib.Dec.{eqb, ltb}
 use lib.ListN.{length, getD, take, drop}
+use Rattle.bytes.specs.Numbers.{numbersOf, decimal}
 use Rattle.refusals.specs.Table.{Refusal, refusal, notWords, Reply, refused, done, reply}
 use Rattle.parameters.specs.declared.ParameterSet.{ParameterSet}
 use Rattle.parameters.specs.declared.Validation.{Validation}
@@ -13,16 +14,6 @@ use Rattle.parameters.specs.Refusals.{constantCount, validationRefusals}
 use Rattle.merkle.specs.Storeless.{storelessRoot}
 use Rattle.trees.specs.SetTrees.{treeOf, leafWords}
 use Rattle.tree_entries.specs.Trees.{has}
-
--- the number of some bytes, the lowest first
-unfoldable pub littleEndian : List ℕ → ℕ
-littleEndian [] = 0
-littleEndian (b ∷ bs) = b + 256 * littleEndian bs
-
--- the first n numbers of a list of bytes
-unfoldable pub numbersOf : ℕ → List ℕ → List ℕ
-numbersOf zero bytes = []
-numbersOf (suc n) bytes = littleEndian (take 8 bytes) ∷ numbersOf n (drop 8 bytes)
 
 -- What the numbers are, in their order (Rules 7.5). Where they end within a list, this is shorter.
 module _ (numbers : List ℕ) where
@@ -81,17 +72,8 @@ badByteCount n = ltb n 40 || ltb 65536 n || not (eqb (n % 8) 0)
 -- The program's reply: 10 for the byte count comes before all other refusals.
 unfoldable pub programReply : List ℕ → Reply
 programReply bytes =
-    let ns = numbersOf (length bytes / 8) bytes in
+    let ns = numbersOf 8 (length bytes / 8) bytes in
     reply (refusal 10 (badByteCount (length bytes)) ∷ readRefusals ns) (readRoot ns)
-
--- A number in decimal, as ASCII: the last digit follows the text of the others. It has at most as many digits as the first number says.
-unfoldable pub digits : ℕ → ℕ → List ℕ
-digits zero n = []
-digits (suc most) n = cond (ltb n 10) ((48 + n) ∷ []) (digits most (n / 10) ++ ((48 + n % 10) ∷ []))
-
--- n has no more digits than n + 1
-unfoldable pub decimal : ℕ → List ℕ
-decimal n = digits (suc n) n
 
 abbrev pub newline : ℕ
 newline = 10

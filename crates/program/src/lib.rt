@@ -3,43 +3,21 @@ ghost use mathlib.Core.Path.{_≡_};
 ghost use Prim.Native.Nat.{_+_, _/_, _≤_, _<_, min};
 ghost use lib.ListN.{length, take, drop, getD};
 ghost use Rattle.parameters.specs.Refusals.{constantCount};
-ghost use Rattle.merkle.specs.Lists.{put};
-ghost use Rattle.program.specs.Program.{littleEndian, numbersOf, readWidth, readCount, readLeaves, readValidation, decimal, lines, refusedLine, readText, rootText, written};
+ghost use Rattle.bytes.specs.Numbers.{numbersOf};
+ghost use Rattle.program.specs.Program.{readWidth, readCount, readLeaves, readValidation, lines, refusedLine, readText, rootText, written};
 use opening_tree::Outcome;
 use parameters::Validation;
-
-fn wide(byte: u8) -> u64
-    ensures { λ r. ⌜ (r ≡ byte) × (r < 256) ⌝ }
-{
-    byte as u64
-}
-
-// The number of the first 8 bytes.
-fn number_of(bytes: &[u8]) -> u64
-    requires { ⌜ 8 ≤ length (now bytes) ⌝ }
-    ensures { λ r. ⌜ r ≡ littleEndian (take 8 (now (bytes .entry))) ⌝ }
-{
-    let b0 = wide(bytes[0]);
-    let b1 = wide(bytes[1]);
-    let b2 = wide(bytes[2]);
-    let b3 = wide(bytes[3]);
-    let b4 = wide(bytes[4]);
-    let b5 = wide(bytes[5]);
-    let b6 = wide(bytes[6]);
-    let b7 = wide(bytes[7]);
-    b0 + 256 * (b1 + 256 * (b2 + 256 * (b3 + 256 * (b4 + 256 * (b5 + 256 * (b6 + 256 * b7))))))
-}
 
 // The numbers of the bytes, and how many they are.
 fn decode(bytes: &[u8], numbers: &mut [u64]) -> usize
     requires { ⌜ length (now bytes) / 8 ≤ length (now numbers) ⌝ }
-    ensures { λ r. ⌜ (r ≡ length (now (bytes .entry)) / 8) × (take r (now (numbers .exit)) ≡ numbersOf r (now (bytes .entry))) ⌝ }
+    ensures { λ r. ⌜ (r ≡ length (now (bytes .entry)) / 8) × (take r (now (numbers .exit)) ≡ numbersOf 8 r (now (bytes .entry))) ⌝ }
 {
     let count = bytes.len() / 8;
     let mut i = 0;
     while i < count {
         let at = 8 * i;
-        numbers[i] = number_of(&bytes[at..]);
+        numbers[i] = encoding::number_of(&bytes[at..]);
         i += 1;
     }
     count
@@ -84,34 +62,6 @@ fn constant_count(width: u64, full_rounds: u64, partial_rounds: u64, most: u64) 
     width * full_rounds + partial_rounds
 }
 
-fn put_bytes(bytes: &[u8], at: usize, output: &mut [u8]) -> usize
-    requires { ⌜ at + length (now bytes) ≤ length (now output) ⌝ }
-    ensures { λ r. ⌜ r ≡ at + length (now (bytes .entry)) ⌝ }
-    ensures { λ r. ⌜ now (output .exit) ≡ put (now (output .entry)) at (now (bytes .entry)) ⌝ }
-{
-    let mut i = 0;
-    while i < bytes.len() {
-        output[at + i] = bytes[i];
-        i += 1;
-    }
-    at + i
-}
-
-// A number in decimal: the digits before the last, and the last.
-fn put_decimal(n: u64, at: usize, output: &mut [u8]) -> usize
-    requires { ⌜ at + length (decimal n) ≤ length (now output) ⌝ }
-    ensures { λ r. ⌜ r ≡ at + length (decimal n) ⌝ }
-    ensures { λ r. ⌜ now (output .exit) ≡ put (now (output .entry)) at (decimal n) ⌝ }
-{
-    if n < 10 {
-        output[at] = 48 + n as u8;
-        return at + 1;
-    }
-    let last = put_decimal(n / 10, at, output);
-    output[last] = 48 + (n % 10) as u8;
-    last + 1
-}
-
 // The words in decimal, each on a line of its own.
 fn put_lines(words: &[u64], output: &mut [u8]) -> usize
     requires { ⌜ (length (now words) ≤ 6) × (length (now output) ≡ 128) ⌝ }
@@ -121,7 +71,7 @@ fn put_lines(words: &[u64], output: &mut [u8]) -> usize
     let mut at = 0;
     let mut i = 0;
     while i < words.len() {
-        let last = put_decimal(words[i], at, output);
+        let last = encoding::put_decimal(words[i], at, output);
         output[last] = b'\n';
         at = last + 1;
         i += 1;
@@ -134,8 +84,8 @@ fn put_refused(number: u8, output: &mut [u8]) -> usize
     ensures { λ r. ⌜ r ≡ length (refusedLine number) ⌝ }
     ensures { λ r. ⌜ now (output .exit) ≡ written (refusedLine number) (now (output .entry)) ⌝ }
 {
-    let at = put_bytes(b"refused ", 0, output);
-    let end = put_decimal(number as u64, at, output);
+    let at = encoding::put_bytes(b"refused ", 0, output);
+    let end = encoding::put_decimal(number as u64, at, output);
     output[end] = b'\n';
     end + 1
 }

@@ -3,13 +3,13 @@ use Prim.Native.Nat.{ℕ, _*_, _-_, _/_, _≤_}
 use native.Mathlib.Omega.{arith}
 use mathlib.Core.List.{List}
 use lib.ListN.{length, take, length-set}
-use Rattle.program.specs.Program.{littleEndian, numbersOf}
+use Rattle.bytes.specs.Numbers.{littleEndian, numbersOf}
 use Rattle.program.proofs.ProgramInput.{decoded-more, to-end}
 use Rattle.program.proofs.decode.Statement.{statement}
 use Rattle.program.proofs.decode.Tie as tie
 
 abbrev Inv-loop : tie.InvT-loop
-Inv-loop bytes numbers₀ count i₀ numbers i = (i ≤ count) × (count ≡ length bytes / 8) × (length numbers ≡ length numbers₀) × (take i numbers ≡ numbersOf i bytes)
+Inv-loop bytes numbers₀ count i₀ numbers i = (i ≤ count) × (count ≡ length bytes / 8) × (length numbers ≡ length numbers₀) × (take i numbers ≡ numbersOf 8 i bytes)
 
 abbrev μ-loop : tie.MeasureT-loop
 μ-loop bytes numbers₀ count i₀ numbers i = count - i
@@ -30,7 +30,7 @@ returns c =
     let l = c .before in
     let bytes = l .before .before .before .args .bytes .now in
     let e : l .loop .i ≡ length bytes / 8 = omega arith in
-    (refl, ap (λ (k : ℕ). take k (l .loop .numbers)) (sym e) ∙ l .loop .inv .3 ∙ ap (λ (k : ℕ). numbersOf k bytes) e)
+    (refl, ap (λ (k : ℕ). take k (l .loop .numbers)) (sym e) ∙ l .loop .inv .3 ∙ ap (λ (k : ℕ). numbersOf 8 k bytes) e)
 
 pub decode-spec : {M : Type 1} → statement M
 decode-spec =

@@ -4,8 +4,10 @@ use Prim.Native.Nat.{ℕ, _+_, _*_, _-_, _≤_}
 use native.Mathlib.Omega.{arith}
 use lib.ListN.{length, take, getD, length-set}
 use lib.Seq.{take-length}
-use Rattle.program.specs.Program.{decimal, newline, lines, written}
-use Rattle.program.proofs.Texts.{decimal-word, line, line-length, lines-more, lines-longer, put-more, written-more}
+use Rattle.bytes.specs.Numbers.{decimal}
+use Rattle.encoding.proofs.Texts.{put-more}
+use Rattle.program.specs.Program.{newline, lines, written}
+use Rattle.program.proofs.Texts.{decimal-word, line, line-length, lines-more, lines-longer, written-more}
 use Rattle.program.proofs.put_lines.Statement.{statement}
 use Rattle.program.proofs.put_lines.Tie as tie
 

@@ -2,8 +2,10 @@ use mathlib.Core.Path.{_≡_, refl, _∙_}
 use Prim.Native.Nat.{_<_}
 use native.Mathlib.Omega.{arith}
 use lib.ListN.{length, length-set}
-use Rattle.program.specs.Program.{decimal, newline, refusedWord, refusedLine}
-use Rattle.program.proofs.Texts.{decimal-byte, line, line-length, put-more, written-put, written-more}
+use Rattle.bytes.specs.Numbers.{decimal}
+use Rattle.encoding.proofs.Texts.{put-more}
+use Rattle.program.specs.Program.{newline, refusedWord, refusedLine}
+use Rattle.program.proofs.Texts.{decimal-byte, line, line-length, written-put, written-more}
 use borrow.Author.Needs.{needs}
 use Rattle.program.proofs.put_refused.Statement.{statement}
 use Rattle.program.proofs.put_refused.Tie as tie

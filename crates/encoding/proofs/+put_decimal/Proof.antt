@@ -5,13 +5,14 @@ use lib.ListN.{length, length-set}
 use borrow.Author.Needs.{needs}
 use borrow.Fn.Kinds.{In}
 use borrow.Fn.PlainCycle.{Measures, is, falls, and}
-use Rattle.program.specs.Program.{decimal}
-use Rattle.program.proofs.Texts.{decimal-digit, decimal-more, decimal-longer, put-byte, put-more}
-use Rattle.program.proofs.put_decimal.Reads as put-decimal
-use Rattle.program.proofs.put_decimal.Kinds as put-decimal-kinds
-use Rattle.program.proofs.+put_decimal.Lts-put_decimal as put-decimal-lts
-use Rattle.program.proofs.+put_decimal.{statement}
-use Rattle.program.proofs.+put_decimal.Tie.{close}
+use Rattle.bytes.specs.Numbers.{decimal}
+use Rattle.bytes.proofs.Decimal.{decimal-digit, decimal-more, decimal-longer}
+use Rattle.encoding.proofs.Texts.{put-byte, put-more}
+use Rattle.encoding.proofs.put_decimal.Reads as put-decimal
+use Rattle.encoding.proofs.put_decimal.Kinds as put-decimal-kinds
+use Rattle.encoding.proofs.+put_decimal.Lts-put_decimal as put-decimal-lts
+use Rattle.encoding.proofs.+put_decimal.{statement}
+use Rattle.encoding.proofs.+put_decimal.Tie.{close}
 
 abbrev μ-put-decimal : Measures 1 put-decimal-kinds.ps ℕ
 μ-put-decimal κs a = a .0

@@ -6,8 +6,8 @@ use native.Mathlib.Omega.{arith}
 use lib.ListN.{length, getD, set, length-set}
 use lib.Seq.{paste, paste-zero, paste-suc}
 use Rattle.merkle.proofs.Lists.{put-paste}
-use Rattle.program.proofs.put_bytes.Statement.{statement}
-use Rattle.program.proofs.put_bytes.Tie as tie
+use Rattle.encoding.proofs.put_bytes.Statement.{statement}
+use Rattle.encoding.proofs.put_bytes.Tie as tie
 
 abbrev Inv-loop : tie.InvT-loop
 Inv-loop bytes at output₀ i₀ output i = (i ≤ length bytes) × (length output ≡ length output₀) × (output ≡ paste output₀ at bytes i)
