@@ -1,16 +1,19 @@
--- Absorption as code does it: a message block added one word after another, and the blocks in turn.
+-- Absorption as code does it, a message block added one word after another and the blocks in turn; and that the leaf is words.
 use mathlib.Core.Path.{_≡_, refl, sym, ap, _∙_}
 use mathlib.Core.List.{List, [], _∷_, _++_, append-assoc}
-use Prim.Native.Nat.{ℕ, zero, suc, _+_, _*_, _-_, _≤_, _<_}
+use Prim.Native.Nat.{ℕ, zero, suc, _+_, _*_, _-_, _/_, _≤_, _<_}
 use native.Mathlib.Nat.{add-zero, mul-zero, mul-suc}
 use native.Mathlib.Omega.{arith}
-use lib.ListN.{length, getD, take, drop, set, length-append, length-drop}
+use lib.ListN.{length, getD, take, drop, set, replicate, length-append, length-drop, length-replicate}
 use lib.Seq.{drop-cons, drop-drop, take-suc, length-take-le, set-at, getD-at, getD-drop}
 use Rattle.modular.specs.Arithmetic.{add}
 use Rattle.poseidon2.specs.Layers.{addLists}
-use Rattle.poseidon2.proofs.Words.{addLists-length}
+use Rattle.poseidon2.specs.Statements.{State}
+use Rattle.poseidon2.proofs.Words.{addLists-length, words-take}
 use Rattle.blocks.proofs.Lists.{addLists-append}
-use Rattle.blobs.specs.Absorption.{addBlock, absorb}
+use Rattle.blobs.specs.Absorption.{addBlock, absorb, fileLeaf}
+use Rattle.blobs.specs.Blob.{fileWords}
+use Rattle.blobs.proofs.FileWords.{zero-beyond}
 
 -- ---- one word more of a message block
 
@@ -71,3 +74,26 @@ module _ (p rate : ℕ) (f : List ℕ → List ℕ) where
       let later : drop (rate * n) (drop rate words) ≡ drop (rate * suc n) words = drop-drop (rate * n) rate words ∙ ap (λ (k : ℕ). drop k words) next in
       one-absorbed n (drop rate words) (f (addBlock p rate (take rate words) state))
       ∙ ap (λ (xs : List ℕ). f (addBlock p rate (take rate xs) (absorb p rate f n (drop rate words) (f (addBlock p rate (take rate words) state))))) later
+
+-- ---- the leaf is words
+
+-- the state at the beginning
+pub zero-state : {p : ℕ} → 0 < p → (t : ℕ) → State p t (replicate t 0)
+zero-state pos t = record { width = length-replicate {A = ℕ} t 0; words = record { at = λ i. omega (arith, pos, zero-beyond t i); }; }
+
+module _ {p : ℕ} (pos : 0 < p) (t : ℕ) (f : List ℕ → List ℕ) (states : (xs : List ℕ) → length xs ≡ t → State p t (f xs)) where
+  -- each block leaves a state
+  absorb-state : (rate n : ℕ) (words state : List ℕ) → rate ≤ t → State p t state → State p t (absorb p rate f n words state)
+  unfolding absorb
+  absorb-state rate zero words state r S = S
+  absorb-state rate (suc n) words state r S =
+      absorb-state rate n (drop rate words) (f (addBlock p rate (take rate words) state)) r
+      (states (addBlock p rate (take rate words) state) (added-length p (take rate words) state rate (omega (arith, S .width)) ∙ S .width))
+
+  pub leaf-state : (size l : ℕ) (contents : List ℕ) → l ≤ t → State p l (fileLeaf p size t l f contents)
+  unfolding fileLeaf
+  leaf-state size l contents fits =
+      let words : List ℕ = fileWords size (t - l) contents in
+      let last : List ℕ = absorb p (t - l) f (length words / (t - l)) words (replicate t 0) in
+      let S : State p t last = absorb-state (t - l) (length words / (t - l)) words (replicate t 0) (omega arith) (zero-state pos t) in
+      record { width = length-take-le l last (omega (arith, S .width)); words = words-take pos l last (S .words); }

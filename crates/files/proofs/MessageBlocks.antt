@@ -15,8 +15,8 @@ use Rattle.bytes.specs.Numbers.{littleEndian, numbersOf}
 use Rattle.bytes.proofs.LittleEndian.{length-numbers, number-at}
 use Rattle.blobs.specs.Blob.{blobHead, message, fileWords}
 use Rattle.blobs.specs.Absorption.{addBlock, absorb, fileLeaf}
-use Rattle.blobs.proofs.FileWords.{blockCount, words-count, zero-beyond, word-is}
-use Rattle.blobs.proofs.Absorption.{none-added, next-word, one-more, none-absorbed, one-absorbed}
+use Rattle.blobs.proofs.FileWords.{blockCount, words-count, word-is}
+use Rattle.blobs.proofs.Absorption.{none-added, next-word, one-more, none-absorbed, one-absorbed, zero-state}
 use Rattle.files.proofs.MessageBytes.{marked}
 
 -- ---- a block's words
@@ -128,7 +128,7 @@ zeros-taken (suc n) zero h = absurd (omega arith)
 zeros-taken (suc n) (suc m) h = ap (λ (xs : List ℕ). 0 ∷ xs) (zeros-taken n m (omega arith))
 
 pub zero-words : {p : ℕ} → 0 < p → (n m : ℕ) → n ≤ m → Words p (take n (replicate m 0))
-zero-words pos n m h = record { at = λ i. omega (arith, pos, ap (λ (xs : List ℕ). getD xs i 0) (zeros-taken n m h), zero-beyond n i) }
+zero-words pos n m h = rw (zeros-taken n m h) (zero-state pos n .words)
 
 pub leaf-is : (p size t l m : ℕ) (f : List ℕ → List ℕ) (contents old : List ℕ) {state out : List ℕ} → l ≤ t → t ≤ m → length old ≡ l → length state ≡ t
     → state ≡ absorb p (t - l) f (length (fileWords size (t - l) contents) / (t - l)) (fileWords size (t - l) contents) (take t (replicate m 0))

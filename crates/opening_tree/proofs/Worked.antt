@@ -11,6 +11,8 @@ use Rattle.poseidon2.specs.Rounds.{addConstants, seventhPowers, fullRound, rais
 use Rattle.poseidon2.specs.Compression.{compress}
 use Rattle.merkle.specs.Lists.{put, joined}
 use Rattle.merkle.specs.Levels.{above, level, build, root}
+use Rattle.bytes.specs.Numbers.{littleEndian, numbersOf, digits, decimal}
+use Rattle.blobs.specs.Blob.{blobHead, message, shortfall, paddedTo, packed, fileWords}
 use Rattle.opening_tree.specs.Worked.{Worked}
 
 -- the product with 2 is 1, and that is so of one word alone
@@ -19,6 +21,6 @@ unfolding mul
 inverse-of-two = sym (prime-laws .inverses .only 2 9223372034707292161 (lit< tt) (lit< tt) (lit< tt) refl)
 
 pub worked : Worked
-unfolding add sub mul pow addLists sum dot rowsTimes m4Rows m4 blocks joinBlocks sumBlocks addToEach mixed external plusMultiples internal addConstants seventhPowers fullRound raiseFirst partialRound fullRounds partialRounds permuteAt permute compress put joined level above build root
+unfolding add sub mul pow addLists sum dot rowsTimes m4Rows m4 blocks joinBlocks sumBlocks addToEach mixed external plusMultiples internal addConstants seventhPowers fullRound raiseFirst partialRound fullRounds partialRounds permuteAt permute compress put joined level above build root littleEndian numbersOf digits decimal blobHead message shortfall paddedTo packed fileWords
 worked =
-    (refl, (refl, (refl, (refl, (ap (λ (x : ℕ). x ∷ []) inverse-of-two, (refl, (refl, (refl, (refl, (refl, (refl, (refl, (refl, tt)))))))))))))
+    (refl, (refl, (refl, (refl, (ap (λ (x : ℕ). x ∷ []) inverse-of-two, (refl, (refl, (refl, (refl, (refl, (refl, (refl, (refl, (refl, (refl, (refl, tt))))))))))))))))

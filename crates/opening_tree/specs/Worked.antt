@@ -3,12 +3,13 @@ use mathlib.Core.Path.{_≡_}
 use mathlib.Core.List.{List, [], _∷_, _++_}
 use Prim.Native.Nat.{ℕ, _+_, _-_, _^_}
 use Rattle.modular.specs.Arithmetic.{sub, mul, inverse}
-use Rattle.fields.specs.Prime.{prime}
+use Rattle.fields.specs.Prime.{prime, wordBytes}
 use Rattle.poseidon2.specs.Layers.{m4, external, internal}
 use Rattle.poseidon2.specs.Rounds.{permute}
 use Rattle.poseidon2.specs.Compression.{compress}
 use Rattle.merkle.specs.Levels.{Shape, build, root}
 use Rattle.trees.specs.Shapes.{shape}
+use Rattle.blobs.specs.Blob.{message, fileWords}
 
 -- What the definitions give, and what Rules 9 says.
 pub record Case : Type 0 where
@@ -58,8 +59,19 @@ tTree = shape prime 4 2 1 0 tDiagonal tConstants
 abbrev pub treeCases : List Case
 treeCases = case (root tTree (build tTree 1 one)) (6 ∷ 4 ∷ []) ∷ []
 
+-- `hello` and a newline
+abbrev pub hello : List ℕ
+hello = 104 ∷ 101 ∷ 108 ∷ 108 ∷ 111 ∷ 10 ∷ []
+
+-- The message of the empty file, and the words of two files where t - l is 2.
+abbrev pub fileCases : List Case
+fileCases =
+    case (message []) (98 ∷ 108 ∷ 111 ∷ 98 ∷ 32 ∷ 48 ∷ 0 ∷ []) ∷
+    case (fileWords wordBytes 2 []) (52915648556130 ∷ 1 ∷ []) ∷
+    case (fileWords wordBytes 2 hello) (59512718322786 ∷ 292948653401448 ∷ []) ∷ []
+
 abbrev pub starred : List Case
-starred = fieldCases ++ (permutationCases ++ treeCases)
+starred = fieldCases ++ (permutationCases ++ (treeCases ++ fileCases))
 
 abbrev pub AllHold : List Case → Type 0
 AllHold [] = Unit {0}

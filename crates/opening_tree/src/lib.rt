@@ -11,6 +11,7 @@ pub use field_entries::power;
 pub use field_entries::product;
 pub use field_entries::seventh_root;
 pub use field_entries::sum;
+pub use file_entries::leaf_of_file;
 pub use parameters::ParameterSet;
 pub use parameters::Validation;
 pub use push_entries::push;
