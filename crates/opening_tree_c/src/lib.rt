@@ -2,6 +2,7 @@
 // the refusal; `opening_tree_verify` returns 255 for an opening that is rejected (Rules 8.6).
 pub mod arithmetic;
 pub mod changes;
+pub mod files;
 pub mod reading;
 pub mod states;
 pub mod tree;
