@@ -79,7 +79,7 @@ module _ (p rate : ℕ) (f : List ℕ → List ℕ) where
 
 -- the state at the beginning
 pub zero-state : {p : ℕ} → 0 < p → (t : ℕ) → State p t (replicate t 0)
-zero-state pos t = record { width = length-replicate {A = ℕ} t 0; words = record { at = λ i. omega (arith, pos, zero-beyond t i); }; }
+zero-state pos t = record { width = length-replicate {A = ℕ} t 0; words = record { at = λ i. omega (arith, pos, zero-beyond t i) } }
 
 module _ {p : ℕ} (pos : 0 < p) (t : ℕ) (f : List ℕ → List ℕ) (states : (xs : List ℕ) → length xs ≡ t → State p t (f xs)) where
   -- each block leaves a state
@@ -96,4 +96,4 @@ module _ {p : ℕ} (pos : 0 < p) (t : ℕ) (f : List ℕ → List ℕ) (states :
       let words : List ℕ = fileWords size (t - l) contents in
       let last : List ℕ = absorb p (t - l) f (length words / (t - l)) words (replicate t 0) in
       let S : State p t last = absorb-state (t - l) (length words / (t - l)) words (replicate t 0) (omega arith) (zero-state pos t) in
-      record { width = length-take-le l last (omega (arith, S .width)); words = words-take pos l last (S .words); }
+      record { width = length-take-le l last (omega (arith, S .width)); words = words-take pos l last (S .words) }

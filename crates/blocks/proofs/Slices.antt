@@ -3,10 +3,10 @@ use mathlib.Core.Path.{_≡_, refl, sym, ap, ap₂, subst, _∙_}
 use mathlib.Core.Logic.{_≢_, inl, inr}
 use mathlib.Core.List.{List, [], _++_, append-nil}
 use Prim.Native.Nat.{ℕ, suc, _+_, _*_, _%_, _≤_}
-use native.Mathlib.Nat.{add-comm, zero-add}
+use native.Mathlib.Nat.{add-comm, add-zero, zero-add}
 use native.Mathlib.Omega.{arith}
-use lib.ListN.{length, getD, take, drop}
-use lib.Seq.{take-all, take-take, drop-drop, drop-length, paste}
+use lib.ListN.{length, getD, take, drop, set}
+use lib.Seq.{take-all, take-take, take-add, drop-drop, drop-length, paste, paste-zero, paste-suc, take-paste, drop-paste}
 use Rattle.modular.specs.Arithmetic.{add}
 use Rattle.modular.specs.Congruence.{_≈⟨_⟩_}
 use Rattle.poseidon2.specs.Layers.{addLists}
@@ -109,5 +109,40 @@ width-small n (inl e) h = omega (arith, e)
 width-small n (inr (inl e)) h = omega (arith, e)
 width-small n (inr (inr e)) h = omega (arith, e)
 
+-- a width is 4 or more, and 8 or more where it is not 4
+pub width-some : {w : ℕ} → Width w → 4 ≤ w
+width-some (inl e) = omega (arith, e)
+width-some (inr (inl e)) = omega (arith, e)
+width-some (inr (inr e)) = omega (arith, e)
+
+pub width-more : {w : ℕ} → Width w → w ≢ 4 → 8 ≤ w
+width-more (inl e) f = absurd (f e)
+width-more (inr (inl e)) f = omega (arith, e)
+width-more (inr (inr e)) f = omega (arith, e)
+
 pub whole-fits : (d : List ℕ) (n : ℕ) → length d ≡ n → 0 + n ≤ length d
 whole-fits d n l = omega (arith, l)
+
+-- ---- blocks that are written one after another
+
+pub block-written : (d x : List ℕ) (at : ℕ) → at + 4 ≤ length d
+    → set (set (set (set d at (getD x 0 0)) (at + 1) (getD x 1 0)) (at + 2) (getD x 2 0)) (at + 3) (getD x 3 0) ≡ paste d at (four x) 4
+block-written d x at h =
+    let F : List ℕ = four x in
+    let one : set d at (getD x 0 0) ≡ paste d at F 1 =
+        ap₂ (λ (ys : List ℕ) (k : ℕ). set ys k (getD x 0 0)) (paste-zero d at F) (sym (add-zero at)) ∙ paste-suc d at F 0 0 (omega arith) (omega arith) in
+    let two : set (set d at (getD x 0 0)) (at + 1) (getD x 1 0) ≡ paste d at F 2 = ap (λ (ys : List ℕ). set ys (at + 1) (getD x 1 0)) one ∙ paste-suc d at F 1 0 (omega arith) (omega arith) in
+    let three : set (set (set d at (getD x 0 0)) (at + 1) (getD x 1 0)) (at + 2) (getD x 2 0) ≡ paste d at F 3 =
+        ap (λ (ys : List ℕ). set ys (at + 2) (getD x 2 0)) two ∙ paste-suc d at F 2 0 (omega arith) (omega arith) in
+    ap (λ (ys : List ℕ). set ys (at + 3) (getD x 3 0)) three ∙ paste-suc d at F 3 0 (omega arith) (omega arith)
+
+-- the next block of a list, behind those that stand there
+pub next-block : (d F b : List ℕ) (k : ℕ) → take 4 b ≡ take 4 (drop k F) → k + 4 ≤ length d → k + 4 ≤ length F
+    → paste (paste d 0 F k) k b 4 ≡ paste d 0 F (k + 4)
+next-block d F b k e h g =
+    let all : 0 + k ≡ k = zero-add k in
+    let front : take k (paste d 0 F k) ≡ take k F = ap (λ (m : ℕ). take m (paste d 0 F k)) (sym all) ∙ take-paste d 0 F k (omega arith) (omega arith) in
+    let rest : drop k (paste d 0 F k) ≡ drop k d = ap (λ (m : ℕ). drop m (paste d 0 F k)) (sym all) ∙ drop-paste d 0 F k (omega arith) (omega arith) ∙ ap (λ (m : ℕ). drop m d) all in
+    let beyond : drop (k + 4) (paste d 0 F k) ≡ drop (0 + (k + 4)) d =
+        sym (drop-drop 4 k (paste d 0 F k)) ∙ ap (drop 4) rest ∙ drop-drop 4 k d ∙ ap (λ (m : ℕ). drop m d) (sym (zero-add (k + 4))) in
+    ap₂ (λ (ys zs : List ℕ). ys ++ zs) (append-eq front e ∙ sym (take-add k 4 F)) beyond

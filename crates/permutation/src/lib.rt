@@ -135,6 +135,33 @@ fn write(s: [[u64; 4]; 3], n: usize, list: &mut [u64], at: usize)
     }
 }
 
+// A block, written from `at` on.
+fn write_block(x: [u64; 4], list: &mut [u64], at: usize)
+    requires { ⌜ at + 4 ≤ length (now list) ⌝ }
+    ensures { λ r. ⌜ now (list .exit) ≡ paste (now (list .entry)) at (four x) 4 ⌝ }
+{
+    list[at] = x[0];
+    list[at + 1] = x[1];
+    list[at + 2] = x[2];
+    list[at + 3] = x[3];
+}
+
+// The first n words of three blocks, written to a list of n. There is no loop: a state is written after every permutation.
+fn write_state(s: [[u64; 4]; 3], n: usize, list: &mut [u64])
+    requires { ⌜ (Width n) × (length (now list) ≡ n) ⌝ }
+    ensures { λ r. ⌜ now (list .exit) ≡ take n (flat 3 s) ⌝ }
+{
+    write_block(s[0], list, 0);
+    if n == 4 {
+        return;
+    }
+    write_block(s[1], list, 4);
+    if n == 8 {
+        return;
+    }
+    write_block(s[2], list, 8);
+}
+
 // The permutation of a state, in its place.
 pub fn permute(
     width: usize,
@@ -148,7 +175,7 @@ pub fn permute(
     ensures { λ r. ⌜ now (state .exit) ≡ permute p half «partial_rounds» (now (diagonal .entry)) (now (constants .entry)) (now (state .entry)) ⌝ }
 {
     let r = permuted(width, half, partial_rounds, diagonal, constants, state, 0);
-    write(r, width, state, 0);
+    write_state(r, width, state);
 }
 
 // The compression of a row to a node.
