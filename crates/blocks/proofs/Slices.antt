@@ -130,10 +130,10 @@ pub block-written : (d x : List ℕ) (at : ℕ) → at + 4 ≤ length d
 block-written d x at h =
     let F : List ℕ = four x in
     let one : set d at (getD x 0 0) ≡ paste d at F 1 =
-        ap₂ (λ (ys : List ℕ) (k : ℕ). set ys k (getD x 0 0)) (paste-zero d at F) (sym (add-zero at)) ∙ paste-suc d at F 0 0 (omega arith) (omega arith) in
+    ap₂ (λ (ys : List ℕ) (k : ℕ). set ys k (getD x 0 0)) (paste-zero d at F) (sym (add-zero at)) ∙ paste-suc d at F 0 0 (omega arith) (omega arith) in
     let two : set (set d at (getD x 0 0)) (at + 1) (getD x 1 0) ≡ paste d at F 2 = ap (λ (ys : List ℕ). set ys (at + 1) (getD x 1 0)) one ∙ paste-suc d at F 1 0 (omega arith) (omega arith) in
     let three : set (set (set d at (getD x 0 0)) (at + 1) (getD x 1 0)) (at + 2) (getD x 2 0) ≡ paste d at F 3 =
-        ap (λ (ys : List ℕ). set ys (at + 2) (getD x 2 0)) two ∙ paste-suc d at F 2 0 (omega arith) (omega arith) in
+    ap (λ (ys : List ℕ). set ys (at + 2) (getD x 2 0)) two ∙ paste-suc d at F 2 0 (omega arith) (omega arith) in
     ap (λ (ys : List ℕ). set ys (at + 3) (getD x 3 0)) three ∙ paste-suc d at F 3 0 (omega arith) (omega arith)
 
 -- the next block of a list, behind those that stand there
@@ -144,5 +144,5 @@ next-block d F b k e h g =
     let front : take k (paste d 0 F k) ≡ take k F = ap (λ (m : ℕ). take m (paste d 0 F k)) (sym all) ∙ take-paste d 0 F k (omega arith) (omega arith) in
     let rest : drop k (paste d 0 F k) ≡ drop k d = ap (λ (m : ℕ). drop m (paste d 0 F k)) (sym all) ∙ drop-paste d 0 F k (omega arith) (omega arith) ∙ ap (λ (m : ℕ). drop m d) all in
     let beyond : drop (k + 4) (paste d 0 F k) ≡ drop (0 + (k + 4)) d =
-        sym (drop-drop 4 k (paste d 0 F k)) ∙ ap (drop 4) rest ∙ drop-drop 4 k d ∙ ap (λ (m : ℕ). drop m d) (sym (zero-add (k + 4))) in
+    sym (drop-drop 4 k (paste d 0 F k)) ∙ ap (drop 4) rest ∙ drop-drop 4 k d ∙ ap (λ (m : ℕ). drop m d) (sym (zero-add (k + 4))) in
     ap₂ (λ (ys zs : List ℕ). ys ++ zs) (append-eq front e ∙ sym (take-add k 4 F)) beyond

@@ -6,7 +6,7 @@ use native.Mathlib.Nat.{mul-assoc, mul-add, mul-suc, mul-le-mul, mul-le-mul-left
 use native.Mathlib.Numerals.{add-one}
 use native.Mathlib.Omega.{arith}
 use lib.ListN.{length, getD, take, drop, set, replicate, length-drop, length-set, length-append, length-replicate}
-use lib.Seq.{drop-drop, getD-drop, getD-take, length-take-le, ext-getD}
+use lib.Seq.{drop-drop, getD-drop, getD-take, length-take-le, take-all, ext-getD}
 use Rattle.modular.specs.Arithmetic.{add}
 use Rattle.poseidon2.specs.Statements.{Words, State}
 use Rattle.merkle.specs.Lists.{part, put}
@@ -17,7 +17,7 @@ use Rattle.blobs.specs.Blob.{blobHead, message, fileWords}
 use Rattle.blobs.specs.Absorption.{addBlock, absorb, fileLeaf}
 use Rattle.blobs.proofs.FileWords.{blockCount, words-count, word-is}
 use Rattle.blobs.proofs.Absorption.{none-added, next-word, one-more, none-absorbed, one-absorbed, zero-state}
-use Rattle.files.proofs.MessageBytes.{marked}
+use Rattle.files.proofs.MessageBytes.{marked, same-word-inside}
 
 -- ---- a block's words
 
@@ -28,6 +28,24 @@ blockFrom size rate from bytes = numbersOf size rate (drop from bytes)
 pub block-word : (size rate from i : ℕ) (bytes : List ℕ) → i < rate → getD (blockFrom size rate from bytes) i 0 ≡ littleEndian (take size (drop (from + size * i) bytes))
 block-word size rate from i bytes h =
     number-at size rate i (drop from bytes) h ∙ ap (λ (xs : List ℕ). littleEndian (take size xs)) (drop-drop (size * i) from bytes)
+
+-- A block that stands in the contents: of the part of them from there on.
+pub inner-block : (size rate from count : ℕ) (head contents : List ℕ) → length head ≤ from → from - length head + count ≤ length contents → size * rate ≤ count
+    → numbersOf size rate (take (length contents - (from - length head)) (drop (from - length head) contents)) ≡ blockFrom size rate from (marked head contents)
+inner-block size rate from count head contents behind fits all =
+    let i : ℕ = from - length head in
+    let rest : List ℕ = drop i contents in
+    let whole : take (length contents - i) rest ≡ rest = take-all (length contents - i) rest (omega (arith, length-drop i contents)) in
+    ap (numbersOf size rate) whole
+    ∙ ext-getD 0 (numbersOf size rate rest) (blockFrom size rate from (marked head contents))
+    (length-numbers size rate rest ∙ sym (length-numbers size rate (drop from (marked head contents))))
+    (λ j h. same-number j (omega (arith, length-numbers size rate rest)))
+  where
+    same-number : (j : ℕ) → j < rate → getD (blockFrom size rate (from - length head) contents) j 0 ≡ getD (blockFrom size rate from (marked head contents)) j 0
+    same-number j h =
+        block-word size rate (from - length head) j contents h
+        ∙ same-word-inside size from head contents behind (size * j) (omega (arith, mul-suc size j, mul-le-mul-left {m = suc j} {n = rate} size h))
+        ∙ sym (block-word size rate from j (marked head contents) h)
 
 -- The first i words of a block are added to the state.
 pub record Added (p size rate from : ℕ) (bytes old : List ℕ) (i : ℕ) (state : List ℕ) : Type 0 where

@@ -1,13 +1,14 @@
 -- The bytes of a message with its mark, by where they stand; words of them, gathered or read at once; and the head.
 use mathlib.Core.Path.{_≡_, refl, sym, ap, ap₂, _∙_}
-use mathlib.Core.Bool.{true}
+use mathlib.Core.Bool.{Bool, true, false, not, _||_, false≢true}
 use mathlib.Core.List.{List, [], _∷_, _++_, append-assoc}
 use Prim.Native.Nat.{ℕ, zero, suc, _+_, _*_, _-_, _%_, _^_, _≤_, _<_}
 use native.Mathlib.Nat.{pow-succ', pow-le-pow-right, mod-lt, one-le-pow}
 use native.Mathlib.Omega.{arith}
-use lib.Dec.{lit<, lit≤}
+use lib.Dec.{ltb, lit<, lit≤}
 use lib.ListN.{length, getD, take, drop, set, length-append, length-drop, List·getD-append, List·getD-eq-default}
 use lib.Seq.{getD-append-add, getD-append-seam, take-all}
+use borrow.Author.Tests.{ltb-false}
 use Rattle.modular.specs.Arithmetic.{allWords}
 use Rattle.modular.proofs.Words.{words-drop}
 use Rattle.bytes.specs.Numbers.{littleEndian, decimal}
@@ -115,27 +116,34 @@ head-put old n {begun} {counted} {out} {at} {end} long few a b e c z =
 
 -- ---- a word, read at once
 
-module _ (size at : ℕ) (head contents : List ℕ) (before : length head ≤ at) (bytes : allWords 256 contents ≡ true) where
-  -- the same bytes in the contents and in the message
-  inside : 8 ≤ length contents - (at - length head) → size ≤ 7
-      → littleEndian (take size (drop (at - length head) contents)) ≡ littleEndian (take size (drop at (marked head contents)))
-  inside there few = same-bytes size (at - length head) at contents (marked head contents) (λ j h. one j (omega arith))
-    where
-      one : (j : ℕ) → j < 8 → getD contents (at - length head + j) 0 ≡ getD (marked head contents) (at + j) 0
-      one j h =
-          let place : at - length head + j ≡ at + j - length head = omega arith in
-          ap (λ (k : ℕ). getD contents k 0) place ∙ contents-byte head contents (at + j) (omega arith) (omega arith)
+pub read-at-once : (size at : ℕ) (bytes : List ℕ) {number n r : ℕ} → allWords 256 bytes ≡ true → size ≤ 7
+    → number ≡ littleEndian (take 8 (take (length bytes - at) (drop at bytes))) → n ≡ size → r ≡ number % 256 ^ n
+    → (r ≡ littleEndian (take size (drop at bytes))) × (r < 256 ^ size)
+read-at-once size at bytes {number} {n} {r} small few e s l =
+    let rest : List ℕ = drop at bytes in
+    let whole : take (length bytes - at) rest ≡ rest = take-all (length bytes - at) rest (omega (arith, length-drop at bytes)) in
+    let low : r ≡ littleEndian (take 8 rest) % 256 ^ size = l ∙ ap₂ (λ (a b : ℕ). a % 256 ^ b) (e ∙ ap (λ (xs : List ℕ). littleEndian (take 8 xs)) whole) s in
+    let under : littleEndian (take 8 rest) % 256 ^ size < 256 ^ size = mod-lt (littleEndian (take 8 rest)) (one-le-pow size 256 (lit≤ tt)) in
+    (low ∙ low-bytes 8 size rest (omega arith) (words-drop 256 at bytes small), omega (arith, low, under))
 
-  -- of the part of the contents from there on
-  pub read-at-once : {number n r : ℕ} → size ≤ 7 → 8 ≤ length contents - (at - length head)
-      → number ≡ littleEndian (take 8 (take (length contents - (at - length head)) (drop (at - length head) contents))) → n ≡ size → r ≡ number % 256 ^ n
-      → (r ≡ littleEndian (take size (drop at (marked head contents)))) × (r < 256 ^ size)
-  read-at-once {number} {n} {r} few there e s l =
-      let i : ℕ = at - length head in
-      let rest : List ℕ = drop i contents in
-      let whole : take (length contents - i) rest ≡ rest = take-all (length contents - i) rest (omega (arith, length-drop i contents)) in
-      let low : r ≡ littleEndian (take 8 rest) % 256 ^ size = l ∙ ap₂ (λ (a b : ℕ). a % 256 ^ b) (e ∙ ap (λ (xs : List ℕ). littleEndian (take 8 xs)) whole) s in
-      let under : littleEndian (take 8 rest) % 256 ^ size < 256 ^ size = mod-lt (littleEndian (take 8 rest)) (one-le-pow size 256 (lit≤ tt)) in (
-        low ∙ low-bytes 8 size rest (omega arith) (words-drop 256 i contents bytes) ∙ inside there few,
-        omega (arith, low, under),
-      )
+-- ---- a part of the contents in the message
+
+module _ (size from : ℕ) (head contents : List ℕ) (behind : length head ≤ from) where
+  -- the word at the same place of both
+  pub same-word-inside : (k : ℕ) → from - length head + (k + size) ≤ length contents
+      → littleEndian (take size (drop (from - length head + k) contents)) ≡ littleEndian (take size (drop (from + k) (marked head contents)))
+  same-word-inside k h = same-bytes size (from - length head + k) (from + k) contents (marked head contents) (λ j b. one j b)
+    where
+      one : (j : ℕ) → j < size → getD contents (from - length head + k + j) 0 ≡ getD (marked head contents) (from + k + j) 0
+      one j b =
+          let place : from - length head + k + j ≡ from + k + j - length head = omega arith in
+          ap (λ (m : ℕ). getD contents m 0) place ∙ contents-byte head contents (from + k + j) (omega arith) (omega arith)
+
+-- what it says that bytes are all of the contents
+pub inside-facts : (from h n count : ℕ) {r : Bool} → r ≡ not (ltb from h || ltb n (from - h + count)) → r ≡ true → (h ≤ from) × (from - h + count ≤ n)
+inside-facts from h n count e t = both (ltb from h) (ltb n (from - h + count)) refl refl (sym t ∙ e)
+  where
+    both : (a b : Bool) → ltb from h ≡ a → ltb n (from - h + count) ≡ b → true ≡ not (a || b) → (h ≤ from) × (from - h + count ≤ n)
+    both true b p q g = absurd (false≢true (sym g))
+    both false true p q g = absurd (false≢true (sym g))
+    both false false p q g = (ltb-false from h p, ltb-false n (from - h + count) q)

@@ -12,18 +12,48 @@ ghost use Rattle.blobs.specs.Blob.{blobHead, fileWords};
 ghost use Rattle.blobs.specs.Absorption.{addBlock, absorb, fileLeaf};
 ghost use Rattle.fields.specs.Prime.{prime, wordBytes};
 
-// The message block that begins at a byte of the padded message, added to the first words of the state.
-fn add_block(rate: usize, head: &[u8], contents: &[u8], from: usize, state: &mut [u64])
+// A message block of the bytes at the beginning of a list, added to the first words of the state. Eight bytes stand behind it at least, so
+// that each word is read at once.
+fn add_inner(rate: usize, bytes: &[u8], state: &mut [u64])
+    requires { ⌜ (rate ≤ length (now state)) × (rate ≤ 12) × (wordBytes * rate + 8 ≤ length (now bytes)) × (Words prime (now state)) ⌝ }
+    ensures { λ r. ⌜ now (state .exit) ≡ addBlock prime rate (numbersOf wordBytes rate (now (bytes .entry))) (now (state .entry)) ⌝ }
+{
+    let size = fields::word_bytes();
+    let mut i = 0;
+    while i < rate {
+        let at = size * i;
+        let word = encoding::low_bytes(encoding::number_of(&bytes[at..]), size);
+        state[i] = fields::sum(state[i], word);
+        i += 1;
+    }
+}
+
+// The message block that begins at a byte of the padded message, byte by byte.
+fn add_edge(rate: usize, head: &[u8], contents: &[u8], from: usize, state: &mut [u64])
     requires { ⌜ (rate ≤ length (now state)) × (rate ≤ 12) × (from ≤ 8589934592) × (Words prime (now state)) ⌝ }
     ensures { λ r. ⌜ now (state .exit) ≡ addBlock prime rate (numbersOf wordBytes rate (drop from (now (head .entry) ++ (now (contents .entry) ++ (1 ∷ []))))) (now (state .entry)) ⌝ }
 {
     let size = fields::word_bytes();
     let mut i = 0;
     while i < rate {
-        let word = message::word_at(head, contents, from + size * i);
+        let word = message::gathered(head, contents, from + size * i);
         state[i] = fields::sum(state[i], word);
         i += 1;
     }
+}
+
+// The message block that begins at a byte of the padded message, added to the first words of the state.
+fn add_block(rate: usize, head: &[u8], contents: &[u8], from: usize, state: &mut [u64])
+    requires { ⌜ (rate ≤ length (now state)) × (rate ≤ 12) × (from ≤ 8589934592) × (Words prime (now state)) ⌝ }
+    ensures { λ r. ⌜ now (state .exit) ≡ addBlock prime rate (numbersOf wordBytes rate (drop from (now (head .entry) ++ (now (contents .entry) ++ (1 ∷ []))))) (now (state .entry)) ⌝ }
+{
+    let count = fields::word_bytes() * rate + 8;
+    if message::inside(head, contents, from, count) {
+        let start = from - head.len();
+        add_inner(rate, &contents[start..], state);
+        return;
+    }
+    add_edge(rate, head, contents, from, state);
 }
 
 // All message blocks of a file: each is added, and the state permuted.

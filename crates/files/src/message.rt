@@ -1,8 +1,10 @@
 // The message of a file with its padding, by its bytes and words. It is never laid out: a byte is one of the head's or of the contents', or
 // the mark behind them, or a zero.
 ghost use mathlib.Core.Path.{_≡_};
+ghost use mathlib.Core.Bool.{not, _||_};
 ghost use mathlib.Core.List.{[], _∷_, _++_};
-ghost use Prim.Native.Nat.{_≤_, _<_, _^_};
+ghost use Prim.Native.Nat.{_+_, _-_, _≤_, _<_, _^_};
+ghost use lib.Dec.{ltb};
 ghost use lib.ListN.{length, getD, take, drop};
 ghost use Rattle.bytes.specs.Numbers.{littleEndian};
 ghost use Rattle.blobs.specs.Blob.{blobHead};
@@ -37,7 +39,7 @@ fn byte_at(head: &[u8], contents: &[u8], at: usize) -> u8
 }
 
 // The word of the bytes from a place on, byte by byte.
-fn gathered(head: &[u8], contents: &[u8], at: usize) -> u64
+pub fn gathered(head: &[u8], contents: &[u8], at: usize) -> u64
     requires { ⌜ at ≤ 17179869184 ⌝ }
     ensures { λ r. ⌜ (r ≡ littleEndian (take wordBytes (drop at (now (head .entry) ++ (now (contents .entry) ++ (1 ∷ [])))))) × (r < 256 ^ wordBytes) ⌝ }
 {
@@ -50,20 +52,16 @@ fn gathered(head: &[u8], contents: &[u8], at: usize) -> u64
     word
 }
 
-// The word of the bytes from a place on. Where eight bytes of the contents stand there it is read at once.
-pub fn word_at(head: &[u8], contents: &[u8], at: usize) -> u64
-    requires { ⌜ at ≤ 17179869184 ⌝ }
-    ensures { λ r. ⌜ (r ≡ littleEndian (take wordBytes (drop at (now (head .entry) ++ (now (contents .entry) ++ (1 ∷ [])))))) × (r < 256 ^ wordBytes) ⌝ }
+// Whether so many bytes from a place on are all of the contents.
+pub fn inside(head: &[u8], contents: &[u8], from: usize, count: usize) -> bool
+    requires { ⌜ (from ≤ 8589934592) × (count ≤ 92) ⌝ }
+    ensures { λ r. ⌜ r ≡ not (ltb from (length (now (head .entry))) || ltb (length (now (contents .entry))) (from - length (now (head .entry)) + count)) ⌝ }
 {
-    if at < head.len() {
-        return gathered(head, contents, at);
+    if from < head.len() {
+        return false;
     }
-    let i = at - head.len();
-    if contents.len() < i {
-        return gathered(head, contents, at);
+    if contents.len() < from - head.len() + count {
+        return false;
     }
-    if contents.len() - i < 8 {
-        return gathered(head, contents, at);
-    }
-    encoding::low_bytes(encoding::number_of(&contents[i..]), fields::word_bytes())
+    true
 }

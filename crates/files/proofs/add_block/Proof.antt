@@ -1,74 +1,57 @@
 use mathlib.Core.Path.{_≡_, ap, _∙_}
-use Prim.Native.Nat.{ℕ, _+_, _*_, _-_, _≤_, _<_}
+use mathlib.Core.List.{List}
+use Prim.Native.Nat.{ℕ, _+_, _*_, _-_, _≤_}
 use native.Mathlib.Omega.{arith}
-use lib.ListN.{length, getD, take, drop}
-use Rattle.bytes.specs.Numbers.{littleEndian}
+use lib.ListN.{length, drop, length-drop}
+use lib.Seq.{length-take-le}
 use Rattle.blobs.specs.Absorption.{addBlock}
 use Rattle.fields.specs.Prime.{prime, wordBytes}
-use Rattle.fields.proofs.Prime.{word-bytes, bytes-few}
-use Rattle.files.proofs.MessageBytes.{marked}
-use Rattle.files.proofs.MessageBlocks.{blockFrom, Added, added-none, untouched, added-word, offset-few}
+use Rattle.fields.proofs.Prime.{bytes-few}
+use Rattle.files.proofs.MessageBytes.{inside-facts}
+use Rattle.files.proofs.MessageBlocks.{offset-few, inner-block}
+use borrow.Author.Needs.{needs}
 use Rattle.files.proofs.add_block.Statement.{statement}
 use Rattle.files.proofs.add_block.Tie as tie
 
-abbrev Inv-loop : tie.InvT-loop
-Inv-loop rate head contents from state₀ size i₀ state i = Added prime wordBytes rate from (marked head contents) state₀ i state
+-- the bytes of a block
+bytes-in : (c : tie.After-word-bytes) → c .word-bytes .result * c .before .before .before .before .args .rate ≤ 84
+bytes-in c =
+    let s = c .before .before .before .before in
+    offset-few (c .word-bytes .result) (s .args .rate) (omega (arith, c .word-bytes .ensures, bytes-few)) (s .pre .1)
 
-abbrev μ-loop : tie.MeasureT-loop
-μ-loop rate head contents from state₀ size i₀ state i = rate - i
+inside-requires : tie.Need-inside-requires
+inside-requires c κs = (c .before .before .before .before .pre .2, omega (arith, bytes-in c))
 
--- where the word stands in its block
-offset : (c : tie.In-loop Inv-loop μ-loop) → c .before .before .word-bytes .result * c .before .loop .i ≤ 84
-offset c =
-    let l = c .before in
-    offset-few (l .before .word-bytes .result) (l .loop .i) (omega (arith, l .before .word-bytes .ensures, bytes-few))
-    (omega (arith, l .before .before .before .before .before .pre .1))
+-- the block stands in the contents, with eight bytes behind it
+facts : (c : tie.Then1) → (length (c .before .before .before .before .before .before .args .head .now) ≤ c .before .before .before .before .before .before .args .from)
+    × (c .before .before .before .before .before .before .args .from - length (c .before .before .before .before .before .before .args .head .now) + (c .before .before .word-bytes .result * c .before .before .before .before .before .before .args .rate + 8) ≤ length (c .before .before .before .before .before .before .args .contents .now))
+facts c = inside-facts _ _ _ _ (c .before .inside .ensures) (c .if1 .taken)
 
-mul-word-at : tie.Need-mul-word-at Inv-loop μ-loop
-mul-word-at c = omega (arith, offset c)
+-- so many bytes as the definition says
+bytes-are : (c : tie.Then1) → c .before .before .word-bytes .result * c .before .before .before .before .before .before .args .rate ≡ wordBytes * c .before .before .before .before .before .before .args .rate
+bytes-are c = ap (λ (b : ℕ). b * c .before .before .before .before .before .before .args .rate) (c .before .before .word-bytes .ensures)
 
-add-word-at : tie.Need-add-word-at Inv-loop μ-loop
-add-word-at c = omega (arith, offset c, c .before .before .before .before .before .before .pre .2)
+add-inner-requires : tie.Need-add-inner-requires
+add-inner-requires c κs =
+    let t = c .before .before in
+    let s = t .before .before .before .before .before .before in
+    let i = s .args .from - length (s .args .head .now) in
+    let n = length (s .args .contents .now) in
+    let long = length-take-le (n - i) (drop i (s .args .contents .now)) (omega (arith, length-drop i (s .args .contents .now))) in
+    (s .pre .0, s .pre .1, omega (arith, long, facts t .1, bytes-are t), s .pre .3)
 
-word-at-requires : tie.Need-word-at-requires Inv-loop μ-loop
-word-at-requires c κs = omega (arith, offset c, c .before .before .before .before .before .before .pre .2)
-
-slice-read-sum : tie.Need-slice-read-sum Inv-loop μ-loop
-slice-read-sum c =
-    let l = c .before .before .before in
-    omega (arith, l .loop .inv .long, l .before .before .before .before .before .pre .0)
-
-sum-requires : tie.Need-sum-requires Inv-loop μ-loop
-sum-requires c κs =
-    let l = c .before .before .before in
-    let s = l .before .before .before .before .before in
-    let own = untouched (l .loop .i) (l .loop .state) (omega (arith, s .pre .0)) (l .loop .inv) in
-    (omega (arith, own, s .pre .3 .at (l .loop .i)), omega (arith, c .before .word-at .ensures .1, word-bytes .fit))
-
-slice-write-state : tie.Need-slice-write-state Inv-loop μ-loop
-slice-write-state c =
-    let l = c .before .before .before .before in
-    omega (arith, l .loop .inv .long, l .before .before .before .before .before .pre .0)
-
-loop-again : tie.Need-loop-again Inv-loop μ-loop
-loop-again c =
-    let l = c .before .before .before .before in
-    let s = l .before .before .before .before .before in
-    let place : s .args .from + l .before .word-bytes .result * l .loop .i ≡ s .args .from + wordBytes * l .loop .i =
-    ap (λ (b : ℕ). s .args .from + b * l .loop .i) (l .before .word-bytes .ensures) in
-    added-word (l .loop .i) (l .loop .state) (omega arith) (s .pre .0) (l .loop .inv)
-    (c .before .before .word-at .ensures .0 ∙ ap (λ (k : ℕ). littleEndian (take wordBytes (drop k (marked (s .args .head .now) (s .args .contents .now))))) place)
-    (c .sum .ensures)
-
-returns : tie.Need-returns Inv-loop μ-loop
+returns : tie.Need-returns
 returns c =
-    let l = c .before in
-    let a = l .before .before .before .before .before .args in
-    let all : l .loop .i ≡ a .rate = omega (arith, l .loop .inv .within) in
-    l .loop .inv .is ∙ ap (λ (k : ℕ). addBlock prime k (blockFrom wordBytes (a .rate) (a .from) (marked (a .head .now) (a .contents .now))) (a .state .now)) all
+    let t = c .before .before .before .before .before in
+    let s = t .before .before .before .before .before .before in
+    let a = s .args in
+    c .before .before .add-inner .ensures
+    ∙ ap (λ (xs : List ℕ). addBlock prime (a .rate) xs (a .state .now))
+    (inner-block wordBytes (a .rate) (a .from) (t .before .before .word-bytes .result * a .rate + 8) (a .head .now) (a .contents .now) (facts t .0) (facts t .1) (omega (arith, bytes-are t)))
 
 pub add-block-spec : {M : Type 1} → statement M
 add-block-spec =
     tie.close
-    (tie.spec Inv-loop μ-loop (λ c κs. tt) (λ c. added-none) mul-word-at add-word-at word-at-requires (λ c. omega arith) slice-read-sum sum-requires
-    (λ c. omega arith) slice-write-state (λ c. omega arith) (λ c. omega arith) loop-again (λ c. c .before .loop .inv .long) returns)
+    (tie.spec (λ c κs. search needs) (λ c. omega (arith, bytes-in c)) (λ c. omega (arith, bytes-in c)) inside-requires (λ c. facts c .0)
+    (λ c. omega (arith, facts c .1)) (λ c. omega (arith, facts c .1)) (λ c. search needs) add-inner-requires (λ c. search needs) returns
+    (λ c κs. search needs) (λ c. search needs) (λ c. search needs))
