@@ -2,6 +2,7 @@
 //! 2^64 and sums in u128; `plain` brings every sum and product below p. The program prints Markdown and writes two pictures to
 //! the folder that it is handed; a second argument `quick` makes it do a tenth of the rounds, once.
 mod charts;
+mod files;
 mod measure;
 mod picture;
 mod poseidon2;
@@ -11,7 +12,7 @@ mod trees;
 
 use charts::{Built, Growth};
 use measure::{Case, Times};
-use report::{Choice, Floor, Row};
+use report::{Absorption, Choice, Floor, Row};
 use trees::Sizes;
 
 /// Every width and node size, by falling width and rising arity.
@@ -31,6 +32,10 @@ const SHAPES: [(usize, usize); 10] = [
 const MEASURED: [(usize, usize); 4] = [(12, 6), (12, 1), (8, 4), (4, 2)];
 /// The powers of two that trees are near to.
 const SIZES: [u32; 2] = [16, 20];
+/// The shapes at which the leaf of a file is measured, the one of them that has targets, and the bytes of the file.
+const FILE_SHAPES: [(usize, usize); 3] = [(12, 6), (12, 1), (8, 4)];
+const AIMED: (usize, usize) = (12, 6);
+const FILE_BYTES: usize = 1 << 20;
 /// What the second picture is of, and its heights.
 const GROWING: (usize, usize) = (12, 6);
 const HEIGHTS: [usize; 7] = [8, 10, 12, 14, 16, 18, 20];
@@ -41,6 +46,9 @@ const PASSES: usize = 3;
 
 /// The most that proved/tuned is to be.
 const STORELESS_TARGET: f64 = 1.10;
+const FILE_TARGET: f64 = 1.03;
+/// The most that the leaf of a file over its permutations alone is to be.
+const ABSORPTION_TARGET: f64 = 1.08;
 
 fn permutation_target(t: usize) -> f64 {
     if t == 12 {
@@ -68,6 +76,7 @@ struct Bench {
     quick: bool,
     rows: Vec<Row>,
     floors: Vec<Floor>,
+    absorptions: Vec<Absorption>,
     choices: Vec<Choice>,
     builds: Vec<Built>,
     growth: Vec<Growth>,
@@ -81,6 +90,7 @@ impl Bench {
             quick,
             rows: vec![],
             floors: vec![],
+            absorptions: vec![],
             choices: vec![],
             builds: vec![],
             growth: vec![],
@@ -98,6 +108,13 @@ impl Bench {
             }
         }
         bench.growing(draw);
+        for (t, l) in FILE_SHAPES {
+            match t {
+                4 => bench.files::<4>(l, draw),
+                8 => bench.files::<8>(l, draw),
+                _ => bench.files::<12>(l, draw),
+            }
+        }
         bench
     }
 
@@ -109,6 +126,10 @@ impl Bench {
         }
         for (a, b) in self.floors.iter_mut().zip(other.floors) {
             lower(&mut a.verify, b.verify);
+            lower(&mut a.floor, b.floor);
+        }
+        for (a, b) in self.absorptions.iter_mut().zip(other.absorptions) {
+            lower(&mut a.leaf, b.leaf);
             lower(&mut a.floor, b.floor);
         }
         for (a, b) in self.choices.iter_mut().zip(other.choices) {
@@ -228,6 +249,26 @@ impl Bench {
         }
     }
 
+    /// The leaf of a file, at one shape.
+    fn files<const T: usize>(&mut self, l: usize, draw: &mut impl FnMut() -> u64) {
+        eprintln!("t = {T}, l = {l}, a file");
+        let contents: Vec<u8> = (0..FILE_BYTES).map(|_| draw() as u8).collect();
+        let case = Case::<T>::new(l, 1, draw);
+        let (times, floor) = case.leaf_of_file(self.rounds(30), &contents);
+        let aimed = (T, l) == AIMED;
+        let operation = format!("leaf of file, {} MiB", FILE_BYTES >> 20);
+        self.add(&operation, T, Some(l), None, times, aimed.then_some(FILE_TARGET));
+        self.absorptions.push(Absorption {
+            t: T,
+            l,
+            bytes: FILE_BYTES,
+            blocks: case.blocks(&contents),
+            leaf: times.proved,
+            floor,
+            target: aimed.then_some(ABSORPTION_TARGET),
+        });
+    }
+
     fn print(mut self, load: String) {
         let order = [
             "permutation",
@@ -240,6 +281,7 @@ impl Bench {
             "verify",
             "replace",
             "push",
+            "leaf",
         ];
         let place = |row: &Row| order.iter().position(|name| row.operation.starts_with(name));
         self.rows.sort_by_key(|row| {
@@ -260,6 +302,8 @@ impl Bench {
         report::print_rows(&self.rows);
         println!("\n### Verification beside the work that it cannot do without\n");
         report::print_floors(&self.floors);
+        println!("\n### The leaf of a file beside its permutations alone\n");
+        report::print_absorptions(&self.absorptions);
         println!("\n### To choose from, at about 2^20 leaves\n");
         report::print_choices(&self.choices);
     }

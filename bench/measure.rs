@@ -1,4 +1,5 @@
 //! One measurement of each operation: the proved version, the tuned and the plain one in interleaved rounds.
+use crate::files;
 use crate::poseidon2::{Plain, Tuned, Version};
 use crate::proved;
 use crate::trees::{self, Rounds, Set, Sizes, RECORD};
@@ -103,6 +104,7 @@ type Open = fn(&Set, &[u64], u64, &mut [u64]) -> u8;
 type Verify<'a> = &'a dyn Fn(&Set, &[u64], u64, &[u64], &[u64]) -> u8;
 type Replace = fn(&Set, &mut [u64], u64, &[u64], &mut u64) -> u8;
 type Push = fn(&Set, &mut [u64], &[u64], &mut u64) -> u8;
+type LeafOfFile<'a> = &'a dyn Fn(&Set, &[u8], &mut [u64]) -> u8;
 
 fn permute<V: Version, const T: usize>(rounds: &Rounds, state: &mut [u64; T]) {
     V::permute(state, &rounds.diagonal, &rounds.constants, rounds.full, rounds.partial)
@@ -318,5 +320,30 @@ impl<const T: usize> Case<T> {
             assert_eq!(made, set.height * count as u64);
         });
         Times::of(&best, 1)
+    }
+
+    /// The message blocks of a file.
+    pub fn blocks(&self, contents: &[u8]) -> usize {
+        files::blocks(contents, T - self.sizes.node)
+    }
+
+    /// The leaf of a file, and in the same rounds the proved work that it cannot do without: a permutation for each message
+    /// block, each of the state that the last one made. These make no leaf; the one that is known is written, and so compared.
+    pub fn leaf_of_file(&self, rounds: usize, contents: &[u8]) -> (Times, f64) {
+        let (set, blocks) = (self.set(), self.blocks(contents));
+        let (held, mut known) = (Rounds::of(&set), vec![0; self.sizes.node]);
+        assert_eq!(files::plain::<T>(&set, contents, &mut known), 0);
+        let alone = |_: &Set, _: &[u8], leaf: &mut [u64]| {
+            let mut state = self.row();
+            (0..blocks).for_each(|_| proved::bare_permute(black_box(&held), &mut state));
+            black_box(state);
+            leaf.copy_from_slice(&known);
+            0
+        };
+        let versions: [LeafOfFile; 4] = [&proved::leaf_of_file, &files::tuned::<T>, &files::plain::<T>, &alone];
+        let best = race(rounds, &vec![1; self.sizes.node], versions, |version, _, leaf| {
+            assert_eq!(version(black_box(&set), contents, leaf), 0);
+        });
+        (Times::of(&best, 1), best[3])
     }
 }

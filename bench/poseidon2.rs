@@ -17,7 +17,7 @@ pub fn seeded() -> impl FnMut() -> u64 {
 pub trait Version {
     /// Below 2^64, congruent to a * b + c.
     fn mul_add(a: u64, b: u64, c: u64) -> u64;
-    /// The permutation of T words below p: D and C in their places, R_F, R_P.
+    /// The permutation of T words below p, or of any numbers for the tuned version: D and C in their places, R_F, R_P.
     fn permute<const T: usize>(s: &mut [u64; T], d: &[u64; 12], c: &[u64; 208], full: usize, partial: usize);
 }
 
@@ -42,6 +42,17 @@ pub fn add(a: u64, b: u64) -> u64 {
         (s - P as u128) as u64
     } else {
         s as u64
+    }
+}
+
+/// Below 2^64, congruent to a + b, of which one is a word.
+#[inline(always)]
+pub fn add_word(a: u64, b: u64) -> u64 {
+    let (sum, carry) = a.overflowing_add(b);
+    if carry {
+        sum.wrapping_add(EPSILON)
+    } else {
+        sum
     }
 }
 
@@ -145,16 +156,6 @@ mod tuned {
     #[inline(always)]
     fn reduce_small(x: u128) -> u64 {
         let (sum, carry) = (x as u64).overflowing_add((x >> 64) as u64 * EPSILON);
-        if carry {
-            sum.wrapping_add(EPSILON)
-        } else {
-            sum
-        }
-    }
-
-    #[inline(always)]
-    fn add_word(a: u64, b: u64) -> u64 {
-        let (sum, carry) = a.overflowing_add(b);
         if carry {
             sum.wrapping_add(EPSILON)
         } else {

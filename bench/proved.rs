@@ -31,6 +31,7 @@ declare! {
     opening_tree_push_numbers(
         store: *mut u64, store_count: usize, numbers: *const u64, numbers_count: usize, made: *mut u64
     );
+    opening_tree_leaf_of_file(contents: *const u8, contents_count: usize, leaf: *mut u64, leaf_count: usize);
 }
 
 #[link(name = "measures", kind = "static")]
@@ -157,6 +158,17 @@ pub fn push(set: &Set, store: &mut [u64], records: &[u64], made: &mut u64) -> u8
         records.as_ptr(),
         records.len(),
         made
+    )
+}
+
+pub fn leaf_of_file(set: &Set, contents: &[u8], leaf: &mut [u64]) -> u8 {
+    call!(
+        opening_tree_leaf_of_file,
+        set,
+        contents.as_ptr(),
+        contents.len(),
+        leaf.as_mut_ptr(),
+        leaf.len()
     )
 }
 

@@ -24,6 +24,19 @@ pub struct Floor {
     pub floor: f64,
 }
 
+/// The leaf of a file beside the work that it cannot do without.
+pub struct Absorption {
+    pub t: usize,
+    pub l: usize,
+    pub bytes: usize,
+    pub blocks: usize,
+    pub leaf: f64,
+    /// A permutation for each message block.
+    pub floor: f64,
+    /// The most that leaf/floor is to be.
+    pub target: Option<f64>,
+}
+
 /// What there is to choose from, at about the same number of leaves.
 pub struct Choice {
     pub t: usize,
@@ -120,6 +133,29 @@ pub fn print_floors(floors: &[Floor]) {
         );
     }
     print_met(&floors.iter().map(|f| (f.verify / f.floor, FLOOR_TARGET)).collect::<Vec<_>>());
+}
+
+pub fn print_absorptions(absorptions: &[Absorption]) {
+    println!("| t | l | bytes | message blocks | leaf of file | its permutations alone | ratio | target |");
+    println!("|--:|--:|--:|--:|--:|--:|--:|---|");
+    for a in absorptions {
+        let ratio = a.leaf / a.floor;
+        let target = mark(ratio, a.target);
+        println!(
+            "| {} | {} | {} | {} | {} | {} | {ratio:.3} | {target} |",
+            a.t,
+            a.l,
+            grouped(a.bytes),
+            grouped(a.blocks),
+            time(a.leaf),
+            time(a.floor)
+        );
+    }
+    let aimed: Vec<(f64, f64)> = absorptions
+        .iter()
+        .filter_map(|a| Some((a.leaf / a.floor, a.target?)))
+        .collect();
+    print_met(&aimed);
 }
 
 pub fn print_choices(choices: &[Choice]) {

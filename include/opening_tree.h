@@ -20,16 +20,22 @@
  *                 and (place / k^j) % k of its row.
  * opening_tree_sizes writes these three counts for a set, so that nobody has to work them out.
  *
- * WHAT IS RETURNED. 0 where the work is done, else the number of a refusal (the names below): of those that apply the lowest. After a
- * refusal every buffer holds what it held, and so do *result, *made, *level and the sizes that opening_tree_sizes writes.
+ * A FILE is a list of bytes, its contents, and has a leaf of l words. Its message is what Git calls a blob: "blob ", the number of bytes in
+ * decimal, a zero byte, and the contents. One byte 01 is appended, and then the fewest zero bytes that make the count of all a multiple of
+ * 7 * (t - l). Each seven bytes in turn are a word, the lowest byte first. The state begins as t zeros; each t - l words in turn are added
+ * to its first t - l, and it is permuted. The leaf is the first l words of the state at the end.
+ *
+ * WHAT IS RETURNED. 0 where the work is done, else the number of a refusal: of those that apply the first in the list of names below, where
+ * 16 stands after 12 and before 13. After a refusal every buffer holds what it held, and so do *result, *made, *level and the sizes that
+ * opening_tree_sizes writes.
  * opening_tree_verify returns 0 for an opening that is accepted and for nothing else; for one that is rejected it returns 255, which is no
  * refusal's number. In a function's comment the brackets after a number say what is tested: for 10 the counts of these buffers, for 12 that
  * these numbers are words. The counts of leaves, store and siblings that fit are those of opening_tree_sizes.
  *
- * WHAT MAY BE HANDED IN. Any numbers and any counts: a count says how many numbers are at the pointer before it, and one that does not fit
- * is refused. What C cannot show is presumed: that many numbers are there, one at every pointer without a count, and what a function writes
- * overlaps nothing else that it is handed. A pointer before the count 0 is not followed and may be NULL: an opening has no numbers
- * where h is 0, and a push may have no records.
+ * WHAT MAY BE HANDED IN. Any numbers and any counts: a count says how many numbers are at the pointer before it (for a file's contents how
+ * many bytes), and one that does not fit is refused. What C cannot show is presumed: that many are there, one number at every pointer
+ * without a count, and what a function writes overlaps nothing else that it is handed. A pointer before the count 0 is not followed and may
+ * be NULL: an opening has no numbers where h is 0, a push may have no records, and a file may be empty.
  *
  * THREADS. No function keeps anything from one call to the next or uses anything but its arguments. Any calls may run at once as long as
  * none writes what another reads or writes.
@@ -47,7 +53,7 @@
 extern "C" {
 #endif
 
-/* What a function returns. */
+/* What a function returns; the refusals in the order in which they are tested. */
 #define OPENING_TREE_DONE 0
 #define OPENING_TREE_ACCEPTED 0
 #define OPENING_TREE_BAD_WIDTH 1           /* t is not 4, 8 or 12 */
@@ -62,6 +68,7 @@ extern "C" {
 #define OPENING_TREE_BAD_LENGTH 10         /* another buffer is not of its exact length, or a push has over 2^32 records */
 #define OPENING_TREE_BAD_PLACE 11          /* a place is not below k^h, or a level not below h */
 #define OPENING_TREE_NOT_A_WORD 12         /* a number handed in is not a word */
+#define OPENING_TREE_FILE_TOO_LONG 16      /* the contents of a file are over 4294967295 bytes */
 #define OPENING_TREE_NO_INVERSE 13         /* the inverse of 0 */
 #define OPENING_TREE_NOT_ACCEPTED 14       /* extraction: an opening is not accepted */
 #define OPENING_TREE_EQUAL_LEAVES 15       /* extraction: the leaves are equal */
@@ -189,6 +196,14 @@ uint8_t opening_tree_extract(OPENING_TREE_SET, const uint64_t *root, size_t root
                              const uint64_t *second, size_t second_count, const uint64_t *second_siblings,
                              size_t second_siblings_count, uint64_t *first_row, size_t first_row_count, uint64_t *second_row,
                              size_t second_row_count, uint64_t *level);
+
+/* ---- Files */
+
+/* The leaf of a file, to build, replace or verify with. The contents are read where they are, and neither they nor the message are copied:
+   a file that is mapped may be handed in. Writes the leaf. Refusals, in this order: 1 to 9, 10 (the leaf is not of l numbers), 16 (the
+   contents are over 4294967295 bytes). A call that is refused reads nothing of them. */
+uint8_t opening_tree_leaf_of_file(OPENING_TREE_SET, const uint8_t *contents, size_t contents_count, uint64_t *leaf,
+                                  size_t leaf_count);
 
 #ifdef __cplusplus
 }

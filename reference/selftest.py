@@ -10,6 +10,7 @@ from collections.abc import Callable, Iterator
 
 import cases
 import field
+import file_checks
 import history_cases
 import history_vectors
 import merkle
@@ -628,6 +629,7 @@ GROUPS = [
     ("histories", histories),
     ("tree refusals", tree_refusals),
     ("program refusals", program_refusals),
+    *file_checks.GROUPS,
 ]
 
 

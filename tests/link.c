@@ -235,6 +235,44 @@ static void collisions(void) {
     expect("nothing written", a[0] == 9 && b[3] == 9 && level == 99);
 }
 
+/* Leaves of files under T, where a message block is two words, 14 bytes. The message of the empty file, with 01 and zeros, is the words
+   52915648556130 and 1, and that of `hello\n`, with 01, the words 59512718322786 and 292948653401448. So their leaves begin the permutation
+   of these and two zeros: 16155333835464672045, 8750051444766971692 and 7674626845191841513, 11908278685281199477. With the 01 in the
+   contents the message is a block longer, and the leaf is 2478763846379610736, 15239368740673049823. */
+static void files(void) {
+    const uint8_t hello[7] = {'h', 'e', 'l', 'l', 'o', '\n', 1};
+    const uint64_t leaves[4] = {16155333835464672045U, 8750051444766971692U, 7674626845191841513U, 11908278685281199477U};
+    const uint64_t longer[2] = {2478763846379610736U, 15239368740673049823U};
+    uint64_t empty_words[4] = {52915648556130U, 1, 0, 0}, hello_words[4] = {59512718322786U, 292948653401448U, 0, 0};
+    uint64_t leaf[2] = {9, 9}, store[6] = {0}, made = 99;
+    expect("the empty file", opening_tree_leaf_of_file(T, hello, 0, leaf, 2) == 0 && same(leaf, leaves, 2));
+    expect("its words", opening_tree_permute(T, empty_words, 4) == 0 && same(empty_words, leaves, 2));
+    expect("hello", opening_tree_leaf_of_file(T, hello, 6, leaf, 2) == 0 && same(leaf, leaves + 2, 2));
+    expect("its words", opening_tree_permute(T, hello_words, 4) == 0 && same(hello_words, leaves + 2, 2));
+    expect("hello and 01", opening_tree_leaf_of_file(T, hello, 7, leaf, 2) == 0 && same(leaf, longer, 2));
+    expect("build, of files", opening_tree_build(T, leaves, 4, store, 6) == 0);
+    expect("a file", opening_tree_verify(T, store + 4, 2, 1, leaves + 2, 2, leaves, 2) == OPENING_TREE_ACCEPTED);
+    expect("another file", opening_tree_verify(T, store + 4, 2, 1, longer, 2, leaves, 2) == OPENING_TREE_REJECTED);
+    expect("replace, by a file", opening_tree_replace(T, store, 6, 1, longer, 2, &made) == 0 && made == 1);
+    expect("that file", opening_tree_verify(T, store + 4, 2, 1, longer, 2, leaves, 2) == OPENING_TREE_ACCEPTED);
+}
+
+/* 2^32 bytes and more are refused by their count, and none is read; 1 to 10 come before that. */
+static void long_files(void) {
+    const uint8_t one[1] = {0};
+    const uint64_t kept[3] = {9, 9, 9};
+    const size_t over = UINT64_C(1) << 32;
+    uint64_t leaf[3] = {9, 9, 9};
+    expect("2^32 bytes", opening_tree_leaf_of_file(T, one, over, leaf, 2) == OPENING_TREE_FILE_TOO_LONG && same(leaf, kept, 3));
+    expect("the most bytes", opening_tree_leaf_of_file(T, one, SIZE_MAX, leaf, 2) == 16 && same(leaf, kept, 3));
+    expect("a leaf of one number", opening_tree_leaf_of_file(T, one, over, leaf, 1) == 10 && same(leaf, kept, 3));
+    expect("a leaf of three numbers", opening_tree_leaf_of_file(T, one, over, leaf, 3) == 10 && same(leaf, kept, 3));
+    expect("a leaf of none", opening_tree_leaf_of_file(T, one, over, NULL, 0) == 10);
+    expect("a short file, and a leaf of three", opening_tree_leaf_of_file(T, one, 1, leaf, 3) == 10 && same(leaf, kept, 3));
+    expect("a set that is refused", opening_tree_leaf_of_file(4, 2, 1, 2, 0, singular, 4, constants, 8, one, over, leaf, 3) == 9 &&
+                                        same(leaf, kept, 3));
+}
+
 /* NULL with the count 0, for every slice: refused where the slice has numbers, and taken where it has none. T without its lists. */
 #define BARE 4, 2, 1, 2, 0, NULL, 0, NULL, 0
 
@@ -257,6 +295,7 @@ static void null_lists(void) {
     expect("no lists: push", opening_tree_push(BARE, NULL, 0, NULL, 0, &made) == 6);
     expect("no lists: push, numbers", opening_tree_push_numbers(BARE, NULL, 0, NULL, 0, &made) == 6);
     expect("no lists: extract", opening_tree_extract(BARE, NULL, 0, 0, NULL, 0, NULL, 0, NULL, 0, NULL, 0, NULL, 0, NULL, 0, &level) == 6);
+    expect("no lists: leaf of a file", opening_tree_leaf_of_file(BARE, NULL, 0, NULL, 0) == 6);
     expect("no lists: nothing is written", made == 99 && level == 99);
 }
 
@@ -285,7 +324,10 @@ static void null_buffers(void) {
     expect("NULL: replace, leaf", opening_tree_replace(T, out, 6, 0, NULL, 0, &made) == 10);
     expect("NULL: push, store", opening_tree_push(T, NULL, 0, &one, 1, &made) == 10);
     expect("NULL: push, store, and no records", opening_tree_push(T, NULL, 0, NULL, 0, &made) == 10);
+    expect("NULL: leaf of a file, leaf", opening_tree_leaf_of_file(T, NULL, 0, NULL, 0) == 10);
     expect("NULL: nothing is written", same(out, kept, 6) && made == 99);
+    /* The empty file is taken. */
+    expect("NULL: leaf of a file, contents", opening_tree_leaf_of_file(T, NULL, 0, out, 2) == 0 && out[0] == 16155333835464672045U);
 }
 
 static void null_rows(void) {
@@ -333,6 +375,8 @@ int main(void) {
     records();
     extraction();
     collisions();
+    files();
+    long_files();
     null_lists();
     null_buffers();
     null_rows();

@@ -1,4 +1,4 @@
-//! The twenty functions of the library, over any numbers and slices. Nothing is presumed: what doesn't fit is refused by a number of
+//! The twenty-one functions of the library, over any numbers and slices. Nothing is presumed: what doesn't fit is refused by a number of
 //! the table, and after a refusal every buffer holds what it held.
 //!
 //! Below t is the width, l the node size, h the height and k = t / l. A store is its levels one after another, leaves first,
@@ -312,6 +312,15 @@ pub fn extract(
     })
 }
 
+/// The leaf of a file, l numbers, from its contents (see [`ParameterSet::leaf_of_file`]). Refusals 1 to 10, and 16 for contents of over
+/// 4294967295 bytes. A call that is refused reads nothing of the contents.
+///
+/// [`ParameterSet::leaf_of_file`]: crate::ParameterSet::leaf_of_file
+pub fn leaf_of_file(set: &SetNumbers, contents: &[u8], leaf: &mut [u64]) -> Result<(), Refusal> {
+    // SAFETY: each pointer comes with its slice's length, and the slice that is written is borrowed alone.
+    done(unsafe { call!(opening_tree_leaf_of_file, set, contents.as_ptr(), contents.len(), leaf.as_mut_ptr(), leaf.len()) })
+}
+
 /// The flat list of records, seven numbers each.
 ///
 /// ```
@@ -348,7 +357,7 @@ mod tests {
 
     #[test]
     fn numbers_without_a_meaning_are_taken_for_nothing() {
-        for number in 16..=u8::MAX {
+        for number in 17..=u8::MAX {
             assert!(std::panic::catch_unwind(|| done(number)).is_err(), "{number}");
             if number != REJECTED {
                 assert!(std::panic::catch_unwind(|| verdict(number)).is_err(), "{number}");

@@ -18,8 +18,8 @@
 //! every tree is as it was. A verification is `Ok` for an opening that is accepted and for nothing else: one that is rejected or refused
 //! is an error, [`NotAccepted`].
 //!
-//! The types here are for numbers that are kept together; [`entries`] has the library's twenty functions over plain slices, for
-//! buffers of one's own. [`field`] is the arithmetic.
+//! The types here are for numbers that are kept together; [`entries`] has the library's twenty-one functions over plain slices,
+//! for buffers of one's own. [`field`] is the arithmetic.
 //!
 //! Choosing a safe set is the caller's part. [`published`] has the Poseidon2 authors' instances to start from.
 

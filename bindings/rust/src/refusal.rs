@@ -3,7 +3,8 @@
 use std::error::Error;
 use std::fmt;
 
-/// Why a call was refused. Of the refusals that apply, the one with the lowest number is given.
+/// Why a call was refused. Of the refusals that apply, the first one tested is given. They are tested in the order of their numbers,
+/// except that 16 comes after 12 and before 13.
 ///
 /// ```
 /// use opening_tree::{field, Refusal};
@@ -46,11 +47,13 @@ pub enum Refusal {
     NotAccepted = 14,
     /// Extraction: the leaves are equal.
     EqualLeaves = 15,
+    /// The contents of a file are more than 4294967295 bytes.
+    FileTooLong = 16,
 }
 
 impl Refusal {
     /// Every refusal, by its number.
-    pub const ALL: [Refusal; 15] = [
+    pub const ALL: [Refusal; 16] = [
         Refusal::BadWidth,
         Refusal::BadNodeSize,
         Refusal::BadFullRounds,
@@ -66,9 +69,10 @@ impl Refusal {
         Refusal::NoInverse,
         Refusal::NotAccepted,
         Refusal::EqualLeaves,
+        Refusal::FileTooLong,
     ];
 
-    /// Its number, 1 to 15.
+    /// Its number, 1 to 16.
     pub const fn number(self) -> u8 {
         self as u8
     }
@@ -97,6 +101,7 @@ impl fmt::Display for Refusal {
             Refusal::NoInverse => "0 has no inverse",
             Refusal::NotAccepted => "an opening handed to the extractor is not accepted",
             Refusal::EqualLeaves => "the leaves handed to the extractor are equal",
+            Refusal::FileTooLong => "the contents of a file are more than 4294967295 bytes",
         })
     }
 }
@@ -113,7 +118,7 @@ mod tests {
             assert_eq!(refusal.number(), number);
             assert_eq!(Refusal::from_number(number), Some(refusal));
         }
-        for number in [0, 16, 99, 255] {
+        for number in [0, 17, 99, 255] {
             assert_eq!(Refusal::from_number(number), None);
         }
     }
@@ -123,6 +128,6 @@ mod tests {
         let mut words: Vec<String> = Refusal::ALL.iter().map(Refusal::to_string).collect();
         words.sort();
         words.dedup();
-        assert_eq!(words.len(), 15);
+        assert_eq!(words.len(), 16);
     }
 }

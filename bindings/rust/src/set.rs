@@ -201,6 +201,50 @@ impl ParameterSet {
         )?;
         Ok(Collision { level, first_row, second_row })
     }
+
+    /// The leaf of a file, l words, from its contents. It is made of what Git calls the file's blob (`blob`, a space, the number of bytes
+    /// in decimal, a zero byte and the contents), which is padded and taken in by the permutation, seven bytes a word and t - l words at
+    /// a time. Refusal 16 for contents of over 4294967295 bytes.
+    ///
+    /// ```
+    /// use opening_tree::{published, NotAccepted, Tree};
+    ///
+    /// let set = published::width_12(6, 1)?; // two leaves of six words
+    /// let leaves = [set.leaf_of_file(b"hello\n")?, set.leaf_of_file(b"")?].concat();
+    /// let tree = Tree::build(&set, &leaves)?;
+    /// let (root, opening) = (tree.root(), tree.open(0)?);
+    ///
+    /// // Whoever holds the root alone, and is handed the file and the opening:
+    /// set.verify(&root, &set.leaf_of_file(b"hello\n")?, &opening)?; // an error unless the opening is accepted
+    /// assert_eq!(set.verify(&root, &set.leaf_of_file(b"hello")?, &opening), Err(NotAccepted::Rejected));
+    /// # Ok::<(), NotAccepted>(())
+    /// ```
+    pub fn leaf_of_file(&self, contents: &[u8]) -> Result<Vec<u64>, Refusal> {
+        let mut leaf = vec![0; self.node_size()];
+        self.write_leaf_of_file(contents, &mut leaf)?;
+        Ok(leaf)
+    }
+
+    /// [`leaf_of_file`](ParameterSet::leaf_of_file), written to a leaf of l numbers. Refusals 10 and 16.
+    ///
+    /// This takes no memory but what it is given: neither the contents nor the message that is made of them are copied. The contents are
+    /// read where they are, so that a file which is mapped may be handed in, and none is read by a call that is refused.
+    ///
+    /// ```
+    /// use opening_tree::{published, Refusal};
+    ///
+    /// let set = published::width_12(6, 1)?;
+    /// let mut leaves = [0; 12];
+    /// for (leaf, contents) in leaves.chunks_exact_mut(6).zip(["hello\n", ""]) {
+    ///     set.write_leaf_of_file(contents.as_bytes(), leaf)?;
+    /// }
+    /// assert_eq!(leaves[..6], set.leaf_of_file(b"hello\n")?);
+    /// assert_eq!(set.write_leaf_of_file(b"", &mut leaves), Err(Refusal::BadLength));
+    /// # Ok::<(), Refusal>(())
+    /// ```
+    pub fn write_leaf_of_file(&self, contents: &[u8], leaf: &mut [u64]) -> Result<(), Refusal> {
+        entries::leaf_of_file(&self.numbers(), contents, leaf)
+    }
 }
 
 /// A size as a slice's length.

@@ -76,4 +76,5 @@ with_a_set! {
         second_row_count: usize,
         level: *mut u64
     );
+    fn opening_tree_leaf_of_file(contents: *const u8, contents_count: usize, leaf: *mut u64, leaf_count: usize);
 }

@@ -114,6 +114,9 @@ fn edges_of_call(call: &Call, tally: &mut Tally) {
     numbers_at_edges(call, tally);
     lengths_at_edges(call, tally);
     places_at_edges(call, tally);
+    if call.entry == Entry::LeafOfFile {
+        contents_at_edges(call, tally);
+    }
 }
 
 fn numbers_at_edges(call: &Call, tally: &mut Tally) {
@@ -146,6 +149,22 @@ fn places_at_edges(call: &Call, tally: &mut Tally) {
             call.numbers[i] = number;
             tally.compare(call);
         }
+    }
+}
+
+fn contents_at_edges(call: &Call, tally: &mut Tally) {
+    let length = call.contents.len();
+    for i in 0..length {
+        for edge in [0, 1, 255] {
+            let mut call = call.clone();
+            call.contents[i] = edge;
+            tally.compare(call);
+        }
+    }
+    for length in [0, length.saturating_sub(1), length + 1, length + 7] {
+        let mut call = call.clone();
+        call.contents.resize(length, 0);
+        tally.compare(call);
     }
 }
 

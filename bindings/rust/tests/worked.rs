@@ -240,6 +240,30 @@ fn a_collision_above_the_leaves() {
     assert_eq!(set.extract(&root, WEAK_PLACE - 1, FIRST, SECOND), Err(Refusal::NotAccepted));
 }
 
+/// A message block is two words here, 14 bytes, which `hello\n` fills with its padding.
+#[test]
+fn leaves_of_files() {
+    let word = |bytes: &[u8; 7]| bytes.iter().rfold(0, |word, &byte| word << 8 | byte as u64);
+    let empty_words = [word(b"blob 0\0"), word(b"\x01\0\0\0\0\0\0")];
+    let hello_words = [word(b"blob 6\0"), word(b"hello\n\x01")];
+    assert_eq!(empty_words, [52915648556130, 1]);
+    assert_eq!(hello_words, [59512718322786, 292948653401448]);
+    for (numbers, empty, hello) in [
+        (T, [16155333835464672045, 8750051444766971692], [7674626845191841513, 11908278685281199477]),
+        (U, [3393038296291752555, 1252048488361728094], [16886169805138202444, 15482757244013894609]),
+    ] {
+        let set = set(numbers);
+        for (contents, [a, b], leaf) in [(&b""[..], empty_words, empty), (b"hello\n", hello_words, hello)] {
+            assert_eq!(set.leaf_of_file(contents), Ok(leaf.to_vec()));
+            let mut state = [a, b, 0, 0];
+            set.permute(&mut state).expect("four words");
+            assert_eq!(state[..2], leaf);
+        }
+    }
+    // The 01 of the contents is not that of the padding: the message is two blocks.
+    assert_eq!(set(T).leaf_of_file(b"hello\n\x01"), Ok(vec![2478763846379610736, 15239368740673049823]));
+}
+
 #[test]
 fn every_function_gives_a_known_answer() {
     assert_eq!(entries::sum(P - 1, 2), Ok(1));
@@ -305,4 +329,8 @@ fn every_function_gives_a_known_answer() {
     assert_eq!(level, Ok(1));
     assert_eq!(first_row[..2], FIRST.siblings[2..]);
     assert_eq!(second_row[..2], SECOND.siblings[2..]);
+
+    let mut leaf = [9; 2];
+    assert_eq!(entries::leaf_of_file(&T, b"hello\n", &mut leaf), Ok(()));
+    assert_eq!(leaf, [7674626845191841513, 11908278685281199477]);
 }

@@ -3,14 +3,23 @@ mod message;
 
 ghost use mathlib.Core.Path.{_≡_};
 ghost use mathlib.Core.List.{[], _∷_, _++_};
-ghost use Prim.Native.Nat.{_+_, _*_, _/_, _≤_, _<_, _-_};
+ghost use Prim.Native.Nat.{_+_, _*_, _/_, _^_, _≤_, _<_};
 ghost use lib.ListN.{length, take, drop};
+ghost use Rattle.modular.specs.Arithmetic.{add};
 ghost use Rattle.poseidon2.specs.Rounds.{permute};
 ghost use Rattle.poseidon2.specs.Statements.{Width, Words};
 ghost use Rattle.bytes.specs.Numbers.{numbersOf};
 ghost use Rattle.blobs.specs.Blob.{blobHead, fileWords};
 ghost use Rattle.blobs.specs.Absorption.{addBlock, absorb, fileLeaf};
 ghost use Rattle.fields.specs.Prime.{prime, wordBytes};
+
+// A word of the state with one of the message added.
+fn added(old: u64, word: u64) -> u64
+    requires { ⌜ (old < prime) × (word < 256 ^ wordBytes) ⌝ }
+    ensures { λ r. ⌜ r ≡ add prime old word ⌝ }
+{
+    fields::sum(old, word)
+}
 
 // A message block of the bytes at the beginning of a list, added to the first words of the state. Eight bytes stand behind it at least, so
 // that each word is read at once.
@@ -23,7 +32,7 @@ fn add_inner(rate: usize, bytes: &[u8], state: &mut [u64])
     while i < rate {
         let at = size * i;
         let word = encoding::low_bytes(encoding::number_of(&bytes[at..]), size);
-        state[i] = fields::sum(state[i], word);
+        state[i] = added(state[i], word);
         i += 1;
     }
 }
@@ -37,7 +46,7 @@ fn add_edge(rate: usize, head: &[u8], contents: &[u8], from: usize, state: &mut 
     let mut i = 0;
     while i < rate {
         let word = message::gathered(head, contents, from + size * i);
-        state[i] = fields::sum(state[i], word);
+        state[i] = added(state[i], word);
         i += 1;
     }
 }

@@ -1,11 +1,13 @@
 //! Every function of the library: the first refusal that applies, or the work.
 
 use super::field;
+use super::files;
 use super::permutation;
 use super::set::{check_set, refuse, Set};
 use super::tree;
 
 const RECORD_NUMBERS: usize = 7;
+const MOST_BYTES: u128 = 4294967295;
 
 /// Refusal 10: each slice has its exact length.
 fn lengths(slices: &[(&[u64], u128)]) -> Result<(), u8> {
@@ -198,4 +200,12 @@ pub fn extract(
     first_row.copy_from_slice(&first_rows[level]);
     second_row.copy_from_slice(&second_rows[level]);
     Ok(level as u64)
+}
+
+pub fn leaf_of_file(set: &Set, contents: &[u8], leaf: &mut [u64]) -> Result<(), u8> {
+    check_set(set)?;
+    lengths(&[(leaf, set.node_size as u128)])?;
+    refuse(16, contents.len() as u128 > MOST_BYTES)?;
+    leaf.copy_from_slice(&files::leaf(set, contents));
+    Ok(())
 }

@@ -4,6 +4,7 @@
 
 pub mod entries;
 pub mod field;
+pub mod files;
 pub mod linear;
 pub mod permutation;
 pub mod set;

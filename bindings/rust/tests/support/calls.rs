@@ -28,10 +28,11 @@ pub enum Entry {
     Replace,
     Push,
     Extract,
+    LeafOfFile,
 }
 
 impl Entry {
-    pub const ALL: [Entry; 20] = [
+    pub const ALL: [Entry; 21] = [
         Entry::Sum,
         Entry::Difference,
         Entry::Product,
@@ -52,6 +53,7 @@ impl Entry {
         Entry::Replace,
         Entry::Push,
         Entry::Extract,
+        Entry::LeafOfFile,
     ];
 
     /// Whether it is one of the field's functions, which take no set.
@@ -67,19 +69,21 @@ impl Entry {
             Entry::Validate | Entry::Sizes => (1..=9).collect(),
             Entry::Open | Entry::Verify | Entry::ReadLevel | Entry::Replace | Entry::Push => (1..=12).collect(),
             Entry::Extract => (1..=12).chain([14, 15]).collect(),
+            Entry::LeafOfFile => (1..=10).chain([16]).collect(),
             _ => (1..=10).chain([12]).collect(),
         }
     }
 }
 
 /// The arguments of a call. The numbers and buffers are in the order of the function's own parameters; the field's functions ignore
-/// the set.
+/// the set, and all but `leaf_of_file` the contents.
 #[derive(Clone, Debug, PartialEq)]
 pub struct Call {
     pub entry: Entry,
     pub set: Set,
     pub numbers: Vec<u64>,
     pub buffers: Vec<Vec<u64>>,
+    pub contents: Vec<u8>,
 }
 
 #[derive(Clone, Copy, Debug, PartialEq, Eq)]
@@ -149,7 +153,7 @@ pub fn numbers(set: &Set) -> SetNumbers<'_> {
 impl Call {
     /// A call for the sizes of a set.
     pub fn sizes(set: Set) -> Call {
-        Call { entry: Entry::Sizes, set, numbers: vec![], buffers: vec![] }
+        Call { entry: Entry::Sizes, set, numbers: vec![], buffers: vec![], contents: vec![] }
     }
 
     /// Calls the library.
@@ -180,6 +184,7 @@ impl Call {
             (Entry::Extract, &[place], [root, a, a_siblings, b, b_siblings, a_row, b_row]) => {
                 numbered(entries::extract(set, root, place, a, a_siblings, b, b_siblings, a_row, b_row)).into()
             }
+            (Entry::LeafOfFile, [], [leaf]) => numbered(entries::leaf_of_file(set, &self.contents, leaf)).into(),
             _ => panic!("no such call: {self:?}"),
         }
     }
@@ -211,6 +216,7 @@ impl Call {
             (Entry::Extract, &[place], [root, a, a_siblings, b, b_siblings, a_row, b_row]) => {
                 entries::extract(set, root, place, a, a_siblings, b, b_siblings, a_row, b_row).into()
             }
+            (Entry::LeafOfFile, [], [leaf]) => entries::leaf_of_file(set, &self.contents, leaf).into(),
             _ => panic!("no such call: {self:?}"),
         }
     }

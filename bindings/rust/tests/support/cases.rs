@@ -38,8 +38,10 @@ pub fn set_for(generator: &mut Generator, entry: Entry) -> Set {
         3 | 4 => 3,
         _ => 2,
     };
-    let needs_tree =
-        !matches!(entry, Entry::Permute | Entry::Unpermute | Entry::Compress | Entry::Sizes | Entry::Verify | Entry::ReadLevel);
+    let needs_tree = !matches!(
+        entry,
+        Entry::Permute | Entry::Unpermute | Entry::Compress | Entry::Sizes | Entry::Verify | Entry::ReadLevel | Entry::LeafOfFile
+    );
     let greatest = if needs_tree || !generator.once_in(8) { small } else { greatest_height(shape.0, shape.1) };
     let height = generator.below(greatest as usize + 1) as u64;
     // Few rounds mostly, since they cost time.
@@ -90,6 +92,19 @@ pub fn offer(generator: &mut Generator, set: &Set) -> (u64, Vec<u64>, Vec<u64>, 
     let siblings = generator.words(set.opening_words() as usize);
     let (_, root) = tree::climb(set, place, &leaf, &siblings);
     (place, leaf, siblings, root)
+}
+
+/// The contents of a file: mostly of few message blocks, at times of many, and at times with an end like that of padding.
+fn contents(generator: &mut Generator, set: &Set) -> Vec<u8> {
+    let block = 7 * (set.width - set.node_size) as usize;
+    let blocks = if generator.once_in(16) { 40 } else { 3 };
+    let length = generator.below(blocks * block);
+    let mut contents = generator.bytes(length);
+    if generator.once_in(4) {
+        contents.push(1);
+        contents.resize(contents.len() + generator.below(2 * block), 0);
+    }
+    contents
 }
 
 /// A call of the function under the set.
@@ -147,6 +162,8 @@ pub fn call(generator: &mut Generator, entry: Entry, set: Set) -> Call {
             let rows = (generator.junk(t), generator.junk(t));
             (vec![place], vec![root, leaf, siblings.clone(), other, siblings, rows.0, rows.1])
         }
+        Entry::LeafOfFile => (vec![], vec![generator.junk(l)]),
     };
-    Call { entry, set, numbers, buffers }
+    let contents = if entry == Entry::LeafOfFile { contents(generator, &set) } else { vec![] };
+    Call { entry, set, numbers, buffers, contents }
 }

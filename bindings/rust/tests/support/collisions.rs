@@ -338,6 +338,6 @@ impl Collision {
         });
         let (_, root) = climb(&set, place, &a, &a_siblings);
         let buffers = vec![root, a, a_siblings, b, b_siblings, generator.junk(t), generator.junk(t)];
-        Call { entry: Entry::Extract, set, numbers: vec![place], buffers }
+        Call { entry: Entry::Extract, set, numbers: vec![place], buffers, contents: vec![] }
     }
 }

@@ -22,6 +22,8 @@ pub fn damage(generator: &mut Generator, call: &mut Call) {
         call.numbers[0] = place(generator, call);
     } else if matches!(call.entry, Entry::Verify | Entry::Extract) && generator.once_in(4) {
         swap_leaf(generator, call);
+    } else if call.entry == Entry::LeafOfFile && generator.once_in(2) {
+        damage_contents(generator, &mut call.contents);
     } else {
         damage_buffer(generator, call);
     }
@@ -134,5 +136,18 @@ fn damage_buffer(generator: &mut Generator, call: &mut Call) {
             let word = generator.word();
             put(buffer, generator, vec![word]);
         }
+    }
+}
+
+/// Other contents, of which many would be equal if padding were not told from them. None is refused.
+fn damage_contents(generator: &mut Generator, contents: &mut Vec<u8>) {
+    let length = contents.len();
+    match generator.below(5) {
+        0 => contents.truncate(length.saturating_sub(1 + generator.below(14))),
+        1 => contents.push(generator.pick(&[0, 1, 255])),
+        2 => contents.resize(length + generator.below(100), 0),
+        3 => contents.insert(generator.below(length + 1), 0),
+        _ if length > 0 => contents[generator.below(length)] = generator.number() as u8,
+        _ => contents.push(0),
     }
 }

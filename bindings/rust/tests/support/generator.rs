@@ -55,6 +55,11 @@ impl Generator {
         (0..count).map(|_| if self.once_in(2) { self.no_word() } else { self.word() }).collect()
     }
 
+    /// Any bytes, at times those that padding is made of.
+    pub fn bytes(&mut self, count: usize) -> Vec<u8> {
+        (0..count).map(|_| if self.once_in(8) { self.pick(&[0, 0, 1, 255]) } else { self.number() as u8 }).collect()
+    }
+
     /// Some of the numbers 0 to bound - 1, in any order.
     pub fn some_below(&mut self, count: usize, bound: usize) -> Vec<usize> {
         let mut rest: Vec<usize> = (0..bound).collect();

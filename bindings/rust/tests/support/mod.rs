@@ -6,5 +6,7 @@ pub mod cases;
 pub mod collisions;
 pub mod damage;
 pub mod generator;
+pub mod mapping;
+pub mod reference;
 pub mod roots;
 pub mod tally;

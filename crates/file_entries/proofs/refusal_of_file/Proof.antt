@@ -23,7 +23,7 @@ returns-3 : tie.Need-returns-3
 returns-3 c =
     let l = c .before in
     let r = l .before .before in
-    sym (at-16 _ _ _ (sym (r .before .refusal-of .ensures) ∙ r .if1 .left) (eq-eqb _ _ (l .if2 .left)) (too-long _ (c .if3 .taken)))
+    sym (at-16 _ _ _ (sym (r .before .refusal-of .ensures) ∙ r .if1 .left) (eq-eqb _ _ (l .if2 .left)) (too-long (c .before .before .before .before .before .before .before .args .contents .now) (omega (arith, c .if3 .taken))))
 
 returns-4 : tie.Need-returns-4
 returns-4 c =

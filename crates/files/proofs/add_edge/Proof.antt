@@ -5,7 +5,7 @@ use lib.ListN.{length, getD, take, drop}
 use Rattle.bytes.specs.Numbers.{littleEndian}
 use Rattle.blobs.specs.Absorption.{addBlock}
 use Rattle.fields.specs.Prime.{prime, wordBytes}
-use Rattle.fields.proofs.Prime.{word-bytes, bytes-few}
+use Rattle.fields.proofs.Prime.{bytes-few}
 use Rattle.files.proofs.MessageBytes.{marked}
 use Rattle.files.proofs.MessageBlocks.{blockFrom, Added, added-none, untouched, added-word, offset-few}
 use Rattle.files.proofs.add_edge.Statement.{statement}
@@ -33,17 +33,17 @@ add-gathered c = omega (arith, offset c, c .before .before .before .before .befo
 gathered-requires : tie.Need-gathered-requires Inv-loop μ-loop
 gathered-requires c κs = omega (arith, offset c, c .before .before .before .before .before .before .pre .2)
 
-slice-read-sum : tie.Need-slice-read-sum Inv-loop μ-loop
-slice-read-sum c =
+slice-read-added : tie.Need-slice-read-added Inv-loop μ-loop
+slice-read-added c =
     let l = c .before .before .before in
     omega (arith, l .loop .inv .long, l .before .before .before .before .before .pre .0)
 
-sum-requires : tie.Need-sum-requires Inv-loop μ-loop
-sum-requires c κs =
+added-requires : tie.Need-added-requires Inv-loop μ-loop
+added-requires c κs =
     let l = c .before .before .before in
     let s = l .before .before .before .before .before in
     let own = untouched (l .loop .i) (l .loop .state) (omega (arith, s .pre .0)) (l .loop .inv) in
-    (omega (arith, own, s .pre .3 .at (l .loop .i)), omega (arith, c .before .gathered .ensures .1, word-bytes .fit))
+    (omega (arith, own, s .pre .3 .at (l .loop .i)), c .before .gathered .ensures .1)
 
 slice-write-state : tie.Need-slice-write-state Inv-loop μ-loop
 slice-write-state c =
@@ -58,7 +58,7 @@ loop-again c =
     ap (λ (b : ℕ). s .args .from + b * l .loop .i) (l .before .word-bytes .ensures) in
     added-word (l .loop .i) (l .loop .state) (omega arith) (s .pre .0) (l .loop .inv)
     (c .before .before .gathered .ensures .0 ∙ ap (λ (k : ℕ). littleEndian (take wordBytes (drop k (marked (s .args .head .now) (s .args .contents .now))))) place)
-    (c .sum .ensures)
+    (c .added .ensures)
 
 returns : tie.Need-returns Inv-loop μ-loop
 returns c =
@@ -70,5 +70,5 @@ returns c =
 pub add-edge-spec : {M : Type 1} → statement M
 add-edge-spec =
     tie.close
-    (tie.spec Inv-loop μ-loop (λ c κs. tt) (λ c. added-none) mul-gathered add-gathered gathered-requires (λ c. omega arith) slice-read-sum sum-requires
+    (tie.spec Inv-loop μ-loop (λ c κs. tt) (λ c. added-none) mul-gathered add-gathered gathered-requires (λ c. omega arith) slice-read-added added-requires
     (λ c. omega arith) slice-write-state (λ c. omega arith) (λ c. omega arith) loop-again (λ c. c .before .loop .inv .long) returns)

@@ -8,7 +8,7 @@ use Rattle.modular.proofs.Words.{words-by}
 use Rattle.bytes.specs.Numbers.{littleEndian}
 use Rattle.blobs.specs.Absorption.{addBlock}
 use Rattle.fields.specs.Prime.{prime, wordBytes}
-use Rattle.fields.proofs.Prime.{word-bytes, bytes-few}
+use Rattle.fields.proofs.Prime.{bytes-few}
 use Rattle.files.proofs.MessageBytes.{read-at-once}
 use Rattle.files.proofs.MessageBlocks.{blockFrom, Added, added-none, untouched, added-word, offset-few}
 use Rattle.files.proofs.add_inner.Statement.{statement}
@@ -44,8 +44,8 @@ number-of-requires c κs =
 low-bytes-requires : tie.Need-low-bytes-requires Inv-loop μ-loop
 low-bytes-requires c κs = omega (arith, c .before .before .before .before .word-bytes .ensures, bytes-few)
 
-slice-read-sum : tie.Need-slice-read-sum Inv-loop μ-loop
-slice-read-sum c =
+slice-read-added : tie.Need-slice-read-added Inv-loop μ-loop
+slice-read-added c =
     let l = c .before .before .before .before .before in
     omega (arith, l .loop .inv .long, l .before .before .before .before .pre .0)
 
@@ -59,12 +59,12 @@ word c =
     (words-by 256 (a .bytes .now) (λ i h. omega (arith, l .before .before .before .shared-slice-known .given i)))
     bytes-few (c .before .number-of .ensures) (l .before .word-bytes .ensures) (c .low-bytes .ensures)
 
-sum-requires : tie.Need-sum-requires Inv-loop μ-loop
-sum-requires c κs =
+added-requires : tie.Need-added-requires Inv-loop μ-loop
+added-requires c κs =
     let l = c .before .before .before .before .before in
     let s = l .before .before .before .before in
     let own = untouched (l .loop .i) (l .loop .state) (omega (arith, s .pre .0)) (l .loop .inv) in
-    (omega (arith, own, s .pre .3 .at (l .loop .i)), omega (arith, word (c .before) .1, word-bytes .fit))
+    (omega (arith, own, s .pre .3 .at (l .loop .i)), word (c .before) .1)
 
 slice-write-state : tie.Need-slice-write-state Inv-loop μ-loop
 slice-write-state c =
@@ -79,7 +79,7 @@ loop-again c =
     ap (λ (b : ℕ). b * l .loop .i) (l .before .word-bytes .ensures) ∙ sym (zero-add (wordBytes * l .loop .i)) in
     added-word (l .loop .i) (l .loop .state) (omega arith) (s .pre .0) (l .loop .inv)
     (word (c .before .before) .0 ∙ ap (λ (k : ℕ). littleEndian (take wordBytes (drop k (s .args .bytes .now)))) place)
-    (c .sum .ensures)
+    (c .added .ensures)
 
 returns : tie.Need-returns Inv-loop μ-loop
 returns c =
@@ -92,5 +92,5 @@ pub add-inner-spec : {M : Type 1} → statement M
 add-inner-spec =
     tie.close
     (tie.spec Inv-loop μ-loop (λ c κs. tt) (λ c. added-none) (λ c. omega (arith, offset c)) (λ c. omega (arith, eight c)) (λ c. omega (arith, eight c)) (λ c. omega (arith, eight c)) number-of-requires low-bytes-requires
-    (λ c. omega arith) slice-read-sum sum-requires (λ c. omega arith) slice-write-state (λ c. omega arith) (λ c. omega arith) loop-again
+    (λ c. omega arith) slice-read-added added-requires (λ c. omega arith) slice-write-state (λ c. omega arith) (λ c. omega arith) loop-again
     (λ c. c .before .loop .inv .long) returns)

@@ -4,7 +4,7 @@ use native.Mathlib.Omega.{arith}
 use lib.ListN.{length, take}
 use lib.Seq.{length-take-le}
 use Rattle.poseidon2.specs.Rounds.{permute}
-use Rattle.blocks.proofs.Slices.{width-small}
+use Rattle.blocks.proofs.Slices.{width-some, width-small}
 use Rattle.fields.specs.Prime.{prime, wordBytes}
 use Rattle.fields.proofs.Prime.{positive}
 use Rattle.files.proofs.MessageBlocks.{zero-words, leaf-is}
@@ -37,7 +37,7 @@ absorb-requires c κs =
       s .pre .3,
       s .pre .4,
       s .pre .5,
-      omega (arith, s .pre .1),
+      omega (arith, s .pre .1, width-some (s .pre .0)),
       omega arith,
       h .ensures .1,
       omega (arith, length-take-le (h .result) (h .last .1 .0) (omega (arith, h .ensures .0, h .kept .1 .0)), h .ensures .0),
