@@ -147,6 +147,8 @@ fn contents_of_2_to_the_32_bytes_are_refused_unread() {
         let other = published::width_12(6, 3).expect("accepted");
         assert_eq!(other.leaf_of_file(contents), Err(Refusal::FileTooLong));
         assert_eq!(mapping.pages_in(), before, "the contents were read");
+        std::hint::black_box(contents[bytes / 2]);
+        assert!(mapping.pages_in() > before, "a page that is read does not show here");
     }
 }
 
