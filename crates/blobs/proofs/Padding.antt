@@ -1,8 +1,8 @@
 -- Padding: how many zero bytes it has, that they are the fewest, and how long a padded list is.
-use mathlib.Core.Path.{_≡_, refl, sym, ap, _∙_}
+use mathlib.Core.Path.{_≡_, ap, _∙_}
 use mathlib.Core.List.{List, [], _∷_, _++_}
-use Prim.Native.Nat.{ℕ, zero, suc, _+_, _*_, _-_, _/_, _%_, _≤_, _<_}
-use native.Mathlib.Nat.{add-mul-mod-self-left, mod-eq-of-lt, mod-lt, div-add-mod, mod-self, mul-mod-right, mul-add, mul-one, add-comm}
+use Prim.Native.Nat.{ℕ, zero, _+_, _*_, _-_, _/_, _%_, _≤_, _<_}
+use native.Mathlib.Nat.{add-mul-mod-self-left, mod-eq-of-lt, mod-lt, div-add-mod, mod-self, mul-mod-right, mul-add, mul-one}
 use native.Mathlib.Decide.{decLt}
 use native.Mathlib.Omega.{arith}
 use lib.ListN.{length, replicate, length-append, length-replicate}

@@ -10,7 +10,7 @@ use lib.Dec.{lit≤}
 use lib.ListN.{length, getD, take, drop, length-drop, take-append-drop, drop-of-length-le, List·getD-eq-default}
 use lib.Seq.{drop-cons, drop-drop, take-nil, length-take-le}
 use Rattle.modular.specs.Arithmetic.{allWords}
-use Rattle.modular.proofs.Words.{none-words, word-first, words-at, words-take, words-drop, left-true, right-true, and-true}
+use Rattle.modular.proofs.Words.{none-words, word-first, words-at, words-take, words-drop}
 use Rattle.bytes.specs.Numbers.{littleEndian, numbersOf}
 
 pub of-none : (bytes : List ℕ) → littleEndian (take 0 bytes) ≡ 0

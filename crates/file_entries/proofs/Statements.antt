@@ -1,22 +1,15 @@
 -- What is claimed of files under an accepted set holds.
-use mathlib.Core.Path.{_≡_}
-use mathlib.Core.List.{List}
-use Prim.Native.Nat.{ℕ, _-_, _/_, _≤_}
+use Prim.Native.Nat.{_-_, _/_}
 use native.Mathlib.Omega.{arith}
-use lib.ListN.{length, replicate}
-use Rattle.refusals.specs.Table.{firstRefusal}
-use Rattle.parameters.specs.declared.ParameterSet.{ParameterSet}
-use Rattle.parameters.specs.ParameterSet.{primeOf, wordBytesOf, setRefusals}
-use Rattle.poseidon2.specs.Statements.{State}
+use Rattle.parameters.specs.ParameterSet.{primeOf, wordBytesOf}
 use Rattle.poseidon2.proofs.Rounds.{permute-state}
 use Rattle.fields.proofs.Prime.{positive, word-bytes}
-use Rattle.blobs.specs.Absorption.{fileLeaf}
 use Rattle.blobs.proofs.Absorption.{leaf-state}
 use Rattle.blobs.proofs.Statements.{claims}
 use Rattle.state_entries.specs.Permutation.{permuteUnder}
 use Rattle.file_entries.specs.Files.{fileWordsUnder, fileLeafUnder}
-use Rattle.file_entries.specs.Statements.{FilesUnder, FileClaims}
-use Rattle.file_entries.proofs.AcceptedFiles.{AcceptedSet, accepted-set}
+use Rattle.file_entries.specs.Statements.{FileClaims}
+use Rattle.file_entries.proofs.AcceptedFiles.{accepted-set}
 
 pub file-claims : FileClaims
 unfolding fileWordsUnder fileLeafUnder permuteUnder

@@ -1,11 +1,11 @@
 -- Message blocks: the words of one, the state with some of them added, and the blocks of a file.
 use mathlib.Core.Path.{_≡_, refl, sym, ap, ap₂, _∙_}
 use mathlib.Core.List.{List, [], _∷_, _++_, append-assoc}
-use Prim.Native.Nat.{ℕ, zero, suc, _+_, _*_, _-_, _/_, _%_, _^_, _≤_, _<_}
+use Prim.Native.Nat.{ℕ, zero, suc, _+_, _*_, _-_, _/_, _≤_, _<_}
 use native.Mathlib.Nat.{mul-assoc, mul-add, mul-suc, mul-le-mul, mul-le-mul-left, mul-div-le, le-trans}
 use native.Mathlib.Numerals.{add-one}
 use native.Mathlib.Omega.{arith}
-use lib.ListN.{length, getD, take, drop, set, replicate, length-drop, length-set, length-append, length-replicate}
+use lib.ListN.{length, getD, take, drop, set, replicate, length-drop, length-set, length-append}
 use lib.Seq.{drop-drop, getD-drop, getD-take, length-take-le, take-all, ext-getD}
 use Rattle.modular.specs.Arithmetic.{add}
 use Rattle.poseidon2.specs.Statements.{Words, State}

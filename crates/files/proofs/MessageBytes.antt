@@ -1,7 +1,7 @@
 -- The bytes of a message with its mark, by where they stand; words of them, gathered or read at once; and the head.
 use mathlib.Core.Path.{_≡_, refl, sym, ap, ap₂, _∙_}
 use mathlib.Core.Bool.{Bool, true, false, not, _||_, false≢true}
-use mathlib.Core.List.{List, [], _∷_, _++_, append-assoc}
+use mathlib.Core.List.{List, [], _∷_, _++_}
 use Prim.Native.Nat.{ℕ, zero, suc, _+_, _*_, _-_, _%_, _^_, _≤_, _<_}
 use native.Mathlib.Nat.{pow-succ', pow-le-pow-right, mod-lt, one-le-pow}
 use native.Mathlib.Omega.{arith}
@@ -98,21 +98,27 @@ module _ {size at : ℕ} {xs : List ℕ} where
 pub few-digits : (n : ℕ) → n ≤ 4294967295 → length (decimal n) ≤ 10
 few-digits n h = decimal-length 9 n (omega arith)
 
+pub head-fits : (n : ℕ) → n ≤ 4294967295 → length (blobHead n) ≤ 16
+unfolding blobHead
+head-fits n few = omega (arith, few-digits n few, length-append blobWord (decimal n ++ (0 ∷ [])), length-append (decimal n) (0 ∷ []))
+
 -- Five bytes, the digits behind them and a zero behind these are the head.
 pub head-put : (old : List ℕ) (n : ℕ) {begun counted out : List ℕ} {at end : ℕ} → length old ≡ 16 → n ≤ 4294967295
     → at ≡ 5 → begun ≡ put old 0 blobWord → end ≡ at + length (decimal n) → counted ≡ put begun at (decimal n) → out ≡ set counted end 0
-    → (end + 1 ≤ 16) × (take (end + 1) out ≡ blobHead n)
+    → (end + 1 ≡ length (blobHead n)) × (out ≡ put old 0 (blobHead n))
 unfolding blobHead
 head-put old n {begun} {counted} {out} {at} {end} long few a b e c z =
     let fits : length (decimal n) ≤ 10 = few-digits n few in
     let kept : length begun ≡ 16 = ap length b ∙ length-put old 0 blobWord (omega arith) ∙ long in
-    let zeroed : out ≡ put begun at (decimal n ++ (0 ∷ [])) = put-more begun (decimal n) at 0 (omega arith) e c z in
-    let whole : out ≡ put old 0 (blobWord ++ (decimal n ++ (0 ∷ []))) =
-    zeroed ∙ ap₂ (λ (xs : List ℕ) (k : ℕ). put xs k (decimal n ++ (0 ∷ []))) b a ∙ put-both old blobWord (decimal n ++ (0 ∷ [])) 0 (omega arith) in
-    let count : length (blobWord ++ (decimal n ++ (0 ∷ []))) ≡ end + 1 = omega (arith, length-append blobWord (decimal n ++ (0 ∷ [])), length-append (decimal n) (0 ∷ [])) in (
-      omega arith,
-      ap₂ (λ (k : ℕ) (xs : List ℕ). take k xs) (sym count) whole ∙ part-put old 0 (blobWord ++ (decimal n ++ (0 ∷ []))) (omega (arith, count)),
+    let zeroed : out ≡ put begun at (decimal n ++ (0 ∷ [])) = put-more begun (decimal n) at 0 (omega arith) e c z in (
+      omega (arith, a, e, length-append blobWord (decimal n ++ (0 ∷ [])), length-append (decimal n) (0 ∷ [])),
+      zeroed ∙ ap₂ (λ (xs : List ℕ) (k : ℕ). put xs k (decimal n ++ (0 ∷ []))) b a ∙ put-both old blobWord (decimal n ++ (0 ∷ [])) 0 (omega arith),
     )
+
+-- The head, taken from the list that it was put into.
+pub head-taken : (old : List ℕ) (n : ℕ) {out : List ℕ} {end : ℕ} → length old ≡ 16 → n ≤ 4294967295 → end ≡ length (blobHead n) → out ≡ put old 0 (blobHead n)
+    → take end out ≡ blobHead n
+head-taken old n long few e o = ap₂ (λ (k : ℕ) (xs : List ℕ). take k xs) e o ∙ part-put old 0 (blobHead n) (omega (arith, head-fits n few))
 
 -- ---- a word, read at once
 

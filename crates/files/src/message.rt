@@ -6,6 +6,7 @@ ghost use mathlib.Core.List.{[], _∷_, _++_};
 ghost use Prim.Native.Nat.{_+_, _-_, _≤_, _<_, _^_};
 ghost use lib.Dec.{ltb};
 ghost use lib.ListN.{length, getD, take, drop};
+ghost use Rattle.merkle.specs.Lists.{put};
 ghost use Rattle.bytes.specs.Numbers.{littleEndian};
 ghost use Rattle.blobs.specs.Blob.{blobHead};
 ghost use Rattle.fields.specs.Prime.{wordBytes};
@@ -13,7 +14,8 @@ ghost use Rattle.fields.specs.Prime.{wordBytes};
 // What stands before so many bytes of contents, and how many bytes it is.
 pub fn put_head(count: u64, head: &mut [u8]) -> usize
     requires { ⌜ (count ≤ 4294967295) × (length (now head) ≡ 16) ⌝ }
-    ensures { λ r. ⌜ (r ≤ 16) × (take r (now (head .exit)) ≡ blobHead count) ⌝ }
+    ensures { λ r. ⌜ r ≡ length (blobHead count) ⌝ }
+    ensures { λ r. ⌜ now (head .exit) ≡ put (now (head .entry)) 0 (blobHead count) ⌝ }
 {
     let at = encoding::put_bytes(b"blob ", 0, head);
     let end = encoding::put_decimal(count, at, head);

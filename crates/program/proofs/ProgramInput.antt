@@ -1,13 +1,13 @@
 -- The numbers of the program's input: 8 bytes as one sum, one number more, and parts that end with the list.
-use mathlib.Core.Path.{_≡_, refl, sym, ap, ap₂, _∙_}
+use mathlib.Core.Path.{_≡_, sym, ap, ap₂, _∙_}
 use mathlib.Core.List.{List, [], _∷_, _++_}
-use Prim.Native.Nat.{ℕ, zero, suc, _+_, _*_, _-_, _/_, _≤_, _<_, min}
+use Prim.Native.Nat.{ℕ, _+_, _*_, _-_, _/_, _≤_, _<_, min}
 use native.Mathlib.Nat.{div-lt-iff-lt-mul, le-div-iff-mul-le, min-eq-left, min-eq-right, pos-of-ne-zero, mul-zero}
 use native.Mathlib.Numerals.{add-one}
 use native.Mathlib.Decide.{decLt}
 use native.Mathlib.Omega.{arith}
-use lib.ListN.{length, take, drop, getD, set, length-drop, drop-of-length-le}
-use lib.Seq.{drop-drop, take-all, take-suc-set}
+use lib.ListN.{length, take, drop, set, length-drop, drop-of-length-le}
+use lib.Seq.{take-all, take-suc-set}
 use Rattle.parameters.specs.Refusals.{constantCount}
 use Rattle.parameters.specs.ParameterSet.{validation}
 use Rattle.bytes.specs.Numbers.{littleEndian, numbersOf}

@@ -1,7 +1,7 @@
 // The root program (Rules 7.5, 7.6), from the bytes that it reads to those that it writes.
 ghost use mathlib.Core.Path.{_≡_};
 ghost use Prim.Native.Nat.{_+_, _/_, _≤_, _<_, min};
-ghost use lib.ListN.{length, take, drop, getD};
+ghost use lib.ListN.{length, take, drop};
 ghost use Rattle.parameters.specs.Refusals.{constantCount};
 ghost use Rattle.bytes.specs.Numbers.{numbersOf};
 ghost use Rattle.program.specs.Program.{readWidth, readCount, readLeaves, readValidation, lines, refusedLine, readText, rootText, written};

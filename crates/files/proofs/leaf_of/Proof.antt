@@ -1,12 +1,13 @@
-use mathlib.Core.Path.{_≡_, sym, _∙_}
+use mathlib.Core.Path.{refl, sym, ap, _∙_}
 use Prim.Native.Nat.{_-_}
 use native.Mathlib.Omega.{arith}
-use lib.ListN.{length, take}
+use lib.ListN.{length, replicate}
 use lib.Seq.{length-take-le}
 use Rattle.poseidon2.specs.Rounds.{permute}
 use Rattle.blocks.proofs.Slices.{width-some, width-small}
 use Rattle.fields.specs.Prime.{prime, wordBytes}
 use Rattle.fields.proofs.Prime.{positive}
+use Rattle.files.proofs.MessageBytes.{head-fits, head-taken}
 use Rattle.files.proofs.MessageBlocks.{zero-words, leaf-is}
 use borrow.Author.Needs.{needs}
 use Rattle.files.proofs.leaf_of.Statement.{statement}
@@ -22,15 +23,23 @@ slice-aggregate-state c =
     let s = c .before .before .before .before .before .before in
     sym (length-take-le _ _ (width-small (s .args .width) (s .pre .0) (omega arith)))
 
+array-share-prefix-head : tie.Need-array-share-prefix-head
+array-share-prefix-head c =
+    let s = c .before .before .before .before .before .before in
+    omega (arith, c .before .before .put-head .ensures .0, head-fits (length (s .args .contents .now)) (s .pre .6))
+
 slice-aggregate-absorb : tie.Need-slice-aggregate-absorb
 slice-aggregate-absorb c =
+    let s = c .before .before .before .before .before .before .before in
     let h = c .before .before .before .put-head in
-    sym (length-take-le _ _ (omega (arith, h .ensures .0, h .kept .1 .0)))
+    sym (length-take-le _ _ (omega (arith, h .ensures .0, h .kept .1 .0, head-fits (length (s .args .contents .now)) (s .pre .6))))
 
 absorb-requires : tie.Need-absorb-requires
 absorb-requires c κs =
     let s = c .before .before .before .before .before .before .before .before in
     let h = c .before .before .before .before .put-head in
+    let n = length (s .args .contents .now) in
+    let head = head-taken (replicate 16 0) n refl (s .pre .6) (h .ensures .0) (h .ensures .1) in
     let fits = width-small (s .args .width) (s .pre .0) (omega arith) in (
       s .pre .0,
       s .pre .2,
@@ -39,8 +48,8 @@ absorb-requires c κs =
       s .pre .5,
       omega (arith, s .pre .1, width-some (s .pre .0)),
       omega arith,
-      h .ensures .1,
-      omega (arith, length-take-le (h .result) (h .last .1 .0) (omega (arith, h .ensures .0, h .kept .1 .0)), h .ensures .0),
+      head,
+      omega (arith, ap length head, head-fits n (s .pre .6)),
       s .pre .6,
       length-take-le _ _ fits,
       zero-words positive (s .args .width) 12 fits,
@@ -64,5 +73,5 @@ returns c =
 pub leaf-of-spec : {M : Type 1} → statement M
 leaf-of-spec =
     tie.close
-    (tie.spec (λ c. search needs) (λ c κs. search needs) array-borrow-prefix-places slice-aggregate-state (λ c. search needs) (λ c. search needs)
+    (tie.spec (λ c. search needs) (λ c κs. search needs) array-borrow-prefix-places slice-aggregate-state (λ c. search needs) array-share-prefix-head
     slice-aggregate-absorb absorb-requires copy-words-requires (λ c. search needs) returns)

@@ -1,5 +1,4 @@
 use mathlib.Core.Path.{ap, _∙_}
-use native.Mathlib.Omega.{arith}
 use Rattle.modular.specs.Goldilocks.{p}
 use Rattle.poseidon2.specs.Rounds.{permute}
 use Rattle.blocks.proofs.Slices.{all-of}

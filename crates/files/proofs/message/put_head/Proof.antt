@@ -1,8 +1,7 @@
 use mathlib.Core.Path.{_≡_, refl, _∙_}
-use Prim.Native.Nat.{_+_, _≤_}
+use Prim.Native.Nat.{_≤_}
 use native.Mathlib.Omega.{arith}
 use lib.ListN.{length, length-set}
-use Rattle.bytes.specs.Numbers.{decimal}
 use Rattle.files.proofs.MessageBytes.{few-digits, head-put}
 use borrow.Author.Needs.{needs}
 use Rattle.files.proofs.message.put_head.Statement.{statement}
