@@ -1,5 +1,6 @@
 -- The laws of numbers modulo p, and of the powers and products that code makes step by step.
 pub mod Fours
+pub mod Undecided
 pub mod Words
 pub mod Congruence
 pub mod Powers

@@ -1,37 +1,17 @@
--- A test of every number of a list, from its front on, and lists with a 0 or none.
+-- The test of words four a turn, and lists with a 0 or none.
 use mathlib.Core.Path.{_≡_, sym, ap, _∙_}
 use mathlib.Core.Bool.{Bool, true, false, not, _&&_, _||_, false≢true}
 use mathlib.Core.List.{List, [], _∷_}
-use Prim.Native.Nat.{ℕ, zero, suc, _+_, _-_, _≤_, _<_}
-use native.Mathlib.Numerals.{add-one}
+use Prim.Native.Nat.{ℕ, zero, suc, _+_, _≤_, _<_}
 use native.Mathlib.Omega.{arith}
 use lib.Dec.{eqb}
-use lib.ListN.{length, getD, take, drop, length-drop, drop-of-length-le}
-use lib.Seq.{take-all, drop-cons}
+use lib.ListN.{length, getD, drop}
 use borrow.Author.Tests.{eq-eqb, ne-eqb, not-true, not-false}
 use Rattle.modular.specs.Arithmetic.{allWords}
 use Rattle.modular.proofs.Fours.{fourAt}
+use Rattle.modular.proofs.Undecided.{Undecided}
 use Rattle.modular.proofs.Words.{words-four}
 use Rattle.parameters.specs.Refusals.{hasZero}
-
--- The loop that tests a list and stops where a number decides: those before i have not.
-abbrev pub Undecided : (List ℕ → Bool) → List ℕ → ℕ → Type 0
-Undecided test xs i = (i ≤ length xs) × (test xs ≡ test (drop i xs))
-
-module _ (test : List ℕ → Bool) (xs : List ℕ) (i : ℕ) (U : Undecided test xs i) where
-  -- the number at i decides, or leaves it to the rest
-  pub decided : {b : Bool} → i < length xs → test (getD xs i 0 ∷ drop (i + 1) xs) ≡ b → test xs ≡ b
-  decided h e = U .1 ∙ ap test (rw (add-one, drop-cons xs i 0)) ∙ e
-
-  pub undecided : i < length xs → test (getD xs i 0 ∷ drop (i + 1) xs) ≡ test (drop (i + 1) xs) → Undecided test xs (i + 1)
-  undecided h e = (omega arith, decided h e)
-
-  pub decided-end : length xs ≤ i → test xs ≡ test []
-  decided-end h = U .1 ∙ ap test (drop-of-length-le xs h)
-
-  -- the part from i on decides
-  pub decided-rest : test (take (length xs - i) (drop i xs)) ≡ test xs
-  decided-rest = ap test (take-all (length xs - i) (drop i xs) (simp length-drop (omega arith))) ∙ sym (U .1)
 
 -- The loop that tests words four a turn: the four from i on, tested by the order, fail the list, or leave it to the rest.
 module _ (p : ℕ) (xs : List ℕ) (i : ℕ) (U : Undecided (allWords p) xs i) (h : i + 4 ≤ length xs) {order : ℕ} (o : order ≡ p) {b : Bool} (e : b ≡ allWords order (fourAt xs i)) where

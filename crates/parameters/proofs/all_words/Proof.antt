@@ -5,7 +5,8 @@ use borrow.Author.Needs.{needs}
 use lib.ListN.{length}
 use Rattle.modular.specs.Arithmetic.{allWords}
 use Rattle.fields.specs.Prime.{prime}
-use Rattle.parameters.proofs.Lists.{Undecided, decided-rest, four-fail, four-pass}
+use Rattle.modular.proofs.Undecided.{Undecided, decided-rest}
+use Rattle.parameters.proofs.Lists.{four-fail, four-pass}
 use Rattle.parameters.proofs.all_words.Statement.{statement}
 use Rattle.parameters.proofs.all_words.Tie as tie
 

@@ -6,7 +6,7 @@ use lib.ListN.{length}
 use Rattle.modular.specs.Arithmetic.{allWords}
 use Rattle.fields.specs.Prime.{prime}
 use Rattle.modular.proofs.Words.{none-words, word-first, not-word-first}
-use Rattle.parameters.proofs.Lists.{Undecided, decided, undecided, decided-end}
+use Rattle.modular.proofs.Undecided.{Undecided, decided, undecided, decided-end}
 use Rattle.parameters.proofs.few_words.Statement.{statement}
 use Rattle.parameters.proofs.few_words.Tie as tie
 

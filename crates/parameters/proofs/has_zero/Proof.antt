@@ -4,7 +4,8 @@ use native.Mathlib.Omega.{arith}
 use borrow.Author.Needs.{needs}
 use lib.ListN.{length}
 use Rattle.parameters.specs.Refusals.{hasZero}
-use Rattle.parameters.proofs.Lists.{Undecided, decided, undecided, decided-end, zero-first, nonzero-first}
+use Rattle.modular.proofs.Undecided.{Undecided, decided, undecided, decided-end}
+use Rattle.parameters.proofs.Lists.{zero-first, nonzero-first}
 use Rattle.parameters.proofs.has_zero.Statement.{statement}
 use Rattle.parameters.proofs.has_zero.Tie as tie
 
