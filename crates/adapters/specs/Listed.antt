@@ -5,6 +5,6 @@ use lib.ListN.{length}
 use Rattle.pushes.specs.declared.record.Record.{Record}
 use Rattle.pushes.specs.Listed.{recordsOf}
 
--- at most sixteen
-unfoldable pub firstSixteen : List ℕ → List Record
-firstSixteen ns = recordsOf ns (min 16 (length ns / 7))
+-- at most 192
+unfoldable pub firstRecords : List ℕ → List Record
+firstRecords ns = recordsOf ns (min 192 (length ns / 7))

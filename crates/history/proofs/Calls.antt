@@ -15,13 +15,14 @@ use Rattle.parameters.specs.ParameterSet.{primeOf, setRefusals}
 use Rattle.parameters.proofs.Accepted.{set-numbered}
 use Rattle.merkle.specs.Openings.{opening}
 use Rattle.merkle.specs.Statements.{Replaced, Proper, Pushed}
+use Rattle.repeats.specs.Repeats.{repeats}
 use Rattle.trees.specs.SetTrees.{treeOf, leafCount, storeWords}
 use Rattle.tree_entries.specs.Trees.{has, noPlace}
 use Rattle.trees.proofs.SetTrees.{laws}
 use Rattle.change_entries.specs.Replacement.{replaceRefusals, replaceReply, replaced}
 use Rattle.change_entries.specs.Replacement as entry
 use Rattle.pushes.specs.declared.record.Record.{Record}
-use Rattle.pushes.specs.Records.{changesOf, placesBelow, usedWords, SixWords}
+use Rattle.pushes.specs.Records.{changesOf, placesOf, placesBelow, usedWords, SixWords}
 use Rattle.push_entries.specs.Pushes.{fewRecords, pushRefusals, pushing, pushReply, pushed}
 use Rattle.history.specs.LeafBook.{Call, replacement, push, bookRefusals, bookCount, bookReply, entered, bookAfter}
 use Rattle.history.specs.History.{callReply, callStore}
@@ -38,12 +39,12 @@ words-end p xs ys e = go (allWords p xs) refl
     go false f = three.left-not-words p xs ys f ∙ sym f
 
 -- so with a store of words, of the right length, only a call's other arguments can be refused
-without-store : (p : ℕ) (front : List Refusal) (long rest : Bool) (place : Refusal) (xs ys : List ℕ) → long ≡ true → allWords p ys ≡ true
-    → front ++ (refusal 10 (not (long && rest)) ∷ place ∷ notWords p (xs ++ ys) ∷ []) ≡ front ++ (refusal 10 (not rest) ∷ place ∷ notWords p xs ∷ [])
+without-store : (p : ℕ) (front : List Refusal) (long rest : Bool) (place : Refusal) (xs ys : List ℕ) (more : List Refusal) → long ≡ true → allWords p ys ≡ true
+    → front ++ (refusal 10 (not (long && rest)) ∷ place ∷ notWords p (xs ++ ys) ∷ more) ≡ front ++ (refusal 10 (not rest) ∷ place ∷ notWords p xs ∷ more)
 unfolding notWords
-without-store p front long rest place xs ys e w =
+without-store p front long rest place xs ys more e w =
     let f : (long && rest) ≡ rest = rw e in
-    ap₂ (λ (a b : Bool). front ++ (refusal 10 (not a) ∷ place ∷ refusal 12 (not b) ∷ [])) f (words-end p xs ys w)
+    ap₂ (λ (a b : Bool). front ++ (refusal 10 (not a) ∷ place ∷ refusal 12 (not b) ∷ more)) f (words-end p xs ys w)
 
 -- what a call and the book agree on
 pub record Follows (s : ParameterSet) (c : Call) (xs : List ℕ) : Type 0 where
@@ -80,7 +81,7 @@ module _ (s : ParameterSet) (valid : firstRefusal (setRefusals s) ≡ 0) where
         let c : Call = replacement q leaf in
         let S = treeOf s in
         let rows : replaceRefusals s (storeOf s xs) q leaf ≡ setRefusals s ++ bookRefusals s c =
-        without-store (primeOf s) (setRefusals s) (has (storeOf s xs) (storeWords s)) (has leaf (s .«node_size»)) (noPlace s q) leaf (opening S (s .height) q (storeOf s xs))
+        without-store (primeOf s) (setRefusals s) (has (storeOf s xs) (storeWords s)) (has leaf (s .«node_size»)) (noPlace s q) leaf (opening S (s .height) q (storeOf s xs)) []
         (eq-eqb (length (storeOf s xs)) (storeWords s) (store-long s valid xs L))
         (words s valid .opened (s .height) q (storeOf s xs) (store-words s valid xs L)) in
         let answer = agreed c xs L (replaceRefusals s (storeOf s xs) q leaf) (entry.replacement s (storeOf s xs) q leaf .made) rows (λ z. work (good s q leaf z) .counted) in
@@ -112,7 +113,7 @@ module _ (s : ParameterSet) (valid : firstRefusal (setRefusals s) ≡ 0) where
         let c : Call = push rs in
         let S = treeOf s in
         let rows : pushRefusals s (storeOf s xs) rs ≡ setRefusals s ++ bookRefusals s c =
-        without-store (primeOf s) (setRefusals s) (has (storeOf s xs) (storeWords s)) (fewRecords rs) (refusal 11 (not (placesBelow (leafCount s) rs))) (usedWords (s .«node_size») rs) (storeOf s xs)
+        without-store (primeOf s) (setRefusals s) (has (storeOf s xs) (storeWords s)) (fewRecords rs) (refusal 11 (not (placesBelow (leafCount s) rs))) (usedWords (s .«node_size») rs) (storeOf s xs) (refusal 17 (repeats (placesOf rs)) ∷ [])
         (eq-eqb (length (storeOf s xs)) (storeWords s) (store-long s valid xs L))
         (store-words s valid xs L) in
         let answer = agreed c xs L (pushRefusals s (storeOf s xs) rs) (pushing s (storeOf s xs) rs .made) rows

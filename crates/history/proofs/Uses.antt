@@ -6,15 +6,16 @@ use Prim.Native.Nat.{ℕ, _^_}
 use lib.Dec.{ltb}
 use lib.ListN.{length, replicate, length-replicate}
 use borrow.Author.Tests.{eq-eqb, le-leb, lt-ltb}
-use Rattle.refusals.specs.Table.{firstRefusal, Reply, done}
-use Rattle.refusals.proofs.Table.{none, reply-done}
+use Rattle.refusals.specs.Table.{refusal, firstRefusal, Reply, done}
+use Rattle.refusals.proofs.Table.{none, refusal-passes, first-back, reply-done}
 use Rattle.refusals.proofs.LengthsPlacesAndWords as three
 use Rattle.parameters.specs.ParameterSet.{primeOf}
 use Rattle.parameters.specs.declared.ParameterSet.{ParameterSet}
+use Rattle.repeats.specs.Repeats.{repeats}
 use Rattle.trees.specs.SetTrees.{leafCount, storeWords, openingWords}
 use Rattle.tree_entries.specs.Trees.{has, built, opened, verifyReply}
 use Rattle.trees.proofs.SetTrees.{laws}
-use Rattle.pushes.specs.Records.{placesBelow, usedWords}
+use Rattle.pushes.specs.Records.{placesOf, placesBelow, usedWords}
 use Rattle.push_entries.specs.Pushes.{fewRecords}
 use Rattle.extraction_entries.specs.Extraction.{Pair, extractRefusals, collision, levelOf, extractReply, extractedFirst, extractedSecond}
 use Rattle.extraction_entries.specs.Statements.{IsRow}
@@ -48,10 +49,13 @@ counted s c z = reply-done (bookRefusals s c) (bookCount s c ∷ []) (book-numbe
 
 counts : Counts
 unfolding bookAnswers bookRefusals bookCount
-counts s leaves blank e rs sixes few places used q leaf long inside wordy =
-    let a : firstRefusal (bookRefusals s (push rs)) ≡ 0 =
-    three.at-words (primeOf s) [] none (not (fewRecords rs)) (not (placesBelow (leafCount s) rs)) (usedWords (s .«node_size») rs) no-row (ap not (le-leb (length rs) (2 ^ 32) few)) (ap not places)
+counts s leaves blank e rs sixes few places used once q leaf long inside wordy =
+    let early = three.at-words (primeOf s) [] none (not (fewRecords rs)) (not (placesBelow (leafCount s) rs)) (usedWords (s .«node_size») rs) no-row (ap not (le-leb (length rs) (2 ^ 32) few)) (ap not places)
     ∙ three.no-twelve (primeOf s) (usedWords (s .«node_size») rs) used in
+    let a : firstRefusal (bookRefusals s (push rs)) ≡ 0 =
+    first-back (three.all (primeOf s) [] none (not (fewRecords rs)) (not (placesBelow (leafCount s) rs)) (usedWords (s .«node_size») rs)) (refusal 17 (repeats (placesOf rs)) ∷ [])
+    (three.all-numbered (primeOf s) [] none _ _ _) early
+    ∙ refusal-passes 17 (repeats (placesOf rs)) [] once ∙ no-row in
     let b : firstRefusal (bookRefusals s (replacement q leaf)) ≡ 0 =
     three.at-words (primeOf s) [] none (not (has leaf (s .«node_size»))) (not (ltb q (leafCount s))) leaf no-row (ap not (eq-eqb (length leaf) (s .«node_size») long)) (ap not (lt-ltb q (leafCount s) inside))
     ∙ three.no-twelve (primeOf s) leaf wordy in

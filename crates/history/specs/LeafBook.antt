@@ -8,10 +8,11 @@ use Rattle.refusals.specs.Table.{Refusal, refusal, notWords, Reply, reply, afte
 use Rattle.parameters.specs.ParameterSet.{primeOf}
 use Rattle.parameters.specs.declared.ParameterSet.{ParameterSet}
 use Rattle.merkle.specs.Lists.{part, put}
+use Rattle.repeats.specs.Repeats.{repeats}
 use Rattle.trees.specs.SetTrees.{leafCount}
 use Rattle.tree_entries.specs.Trees.{has}
 use Rattle.pushes.specs.declared.record.Record.{Record}
-use Rattle.pushes.specs.Records.{leafOf, placesBelow, usedWords}
+use Rattle.pushes.specs.Records.{leafOf, placesOf, placesBelow, usedWords}
 use Rattle.push_entries.specs.Pushes.{fewRecords}
 
 -- A call's arguments beside the set and the store: a place and a leaf, or a list of records.
@@ -33,8 +34,8 @@ enterAll s (r ∷ rs) book = enterAll s rs (enter s (r .place) (leafOf (s .«nod
 
 -- Nothing here has a store or an entry's answer for an argument (Rules 6.3). Of the set, l, k^h and h are read.
 module _ (s : ParameterSet) where
-  -- What the book refuses: of a replacement its leaf's length, its place and its leaf's words (Rules 6.4); of a push its length, its places
-  -- and its leaves' words (Rules 6.5).
+  -- What the book refuses: of a replacement its leaf's length, its place and its leaf's words (Rules 6.4); of a push its length, its places,
+  -- its leaves' words, and a place that it has twice (Rules 6.5).
   unfoldable pub bookRefusals : Call → List Refusal
   bookRefusals (replacement q leaf) =
       refusal 10 (not (has leaf (s .«node_size»))) ∷
@@ -43,7 +44,8 @@ module _ (s : ParameterSet) where
   bookRefusals (push rs) =
       refusal 10 (not (fewRecords rs)) ∷
       refusal 11 (not (placesBelow (leafCount s) rs)) ∷
-      notWords (primeOf s) (usedWords (s .«node_size») rs) ∷ []
+      notWords (primeOf s) (usedWords (s .«node_size») rs) ∷
+      refusal 17 (repeats (placesOf rs)) ∷ []
 
   -- What it enters where it refuses nothing, and what it then answers: h for each leaf.
   unfoldable pub entered : Call → List ℕ → List ℕ

@@ -1,7 +1,7 @@
 -- What demand 3 is for: a consequence of each of its parts.
 use mathlib.Core.Path.{_≡_}
 use mathlib.Core.Logic.{_≢_}
-use mathlib.Core.Bool.{true}
+use mathlib.Core.Bool.{true, false}
 use mathlib.Core.List.{List, [], _∷_}
 use Prim.Native.Nat.{ℕ, _*_, _^_, _≤_, _<_}
 use lib.ListN.{length}
@@ -10,13 +10,14 @@ use Rattle.refusals.specs.Table.{done}
 use Rattle.parameters.specs.ParameterSet.{primeOf}
 use Rattle.parameters.specs.declared.ParameterSet.{ParameterSet}
 use Rattle.merkle.specs.Storeless.{storelessRoot}
+use Rattle.repeats.specs.Repeats.{repeats}
 use Rattle.state_entries.specs.Permutation.{compressUnder}
 use Rattle.trees.specs.SetTrees.{treeOf, leafCount, openingWords}
 use Rattle.tree_entries.specs.Trees.{buildReply, built, opened, verifyReply}
 use Rattle.extraction_entries.specs.Extraction.{pair}
 use Rattle.extraction_entries.specs.Statements.{IsRow, Collides}
 use Rattle.pushes.specs.declared.record.Record.{Record}
-use Rattle.pushes.specs.Records.{placesBelow, usedWords, SixWords}
+use Rattle.pushes.specs.Records.{placesOf, placesBelow, usedWords, SixWords}
 use Rattle.history.specs.LeafBook.{Call, replacement, push, leafAt, bookLeaves}
 use Rattle.history.specs.History.{Ran, run}
 use Rattle.history.specs.Demand3.{Typed, rootOf}
@@ -36,6 +37,7 @@ abbrev pub Counts : Type 0
 Counts =
     (s : ParameterSet) (leaves buffer : List ℕ) → buildReply s leaves buffer ≡ done []
     → (rs : List Record) → SixWords rs → length rs ≤ 2 ^ 32 → placesBelow (leafCount s) rs ≡ true → allWords (primeOf s) (usedWords (s .«node_size») rs) ≡ true
+    → repeats (placesOf rs) ≡ false
     → (q : ℕ) (leaf : List ℕ) → length leaf ≡ s .«node_size» → q < leafCount s → allWords (primeOf s) leaf ≡ true
     → run s (push rs ∷ replacement q leaf ∷ []) (built s leaves buffer) .answers ≡ done (s .height * length rs ∷ []) ∷ done (s .height ∷ []) ∷ []
 

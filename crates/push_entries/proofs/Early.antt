@@ -13,6 +13,7 @@ use Rattle.parameters.specs.ParameterSet.{primeOf, setRefusals}
 use Rattle.parameters.proofs.Accepted.{set-numbered}
 use Rattle.trees.specs.SetTrees.{leafCount, storeWords}
 use Rattle.tree_entries.specs.Trees.{has}
+use Rattle.pushes.specs.Passes.{keepable}
 use Rattle.push_entries.specs.Ends.{earlyRefusals, begun, beginOf}
 
 module _ (s : ParameterSet) (store : List ℕ) (n : ℕ) where
@@ -36,12 +37,12 @@ module _ (s : ParameterSet) (store : List ℕ) (n : ℕ) where
   early-none z e = first-back (setRefusals s) _ (set-numbered s) z ∙ refusal-passes 10 badLengths [] e
 
   pub begin-refused : (k : ℕ) → k ≢ 0 → firstRefusal (earlyRefusals s store n) ≡ k
-      → record { number = k; places = 0; placed = true; words = true; made = 0 } ≡ beginOf s store n
+      → record { number = k; places = 0; placed = true; words = true; distinct = true; rising = true; above = 0; few = false; kept = 0; made = 0 } ≡ beginOf s store n
   unfolding beginOf
   begin-refused zero o e = absurd (o refl)
-  begin-refused (suc k) o e = ap (λ (r : ℕ). begun r (leafCount s) (allWords (primeOf s) store)) (sym e)
+  begin-refused (suc k) o e = ap (λ (r : ℕ). begun r (leafCount s) (allWords (primeOf s) store) (leb n keepable)) (sym e)
 
   pub begin-clear : (m : ℕ) (w : Bool) → m ≡ leafCount s → w ≡ allWords (primeOf s) store → firstRefusal (earlyRefusals s store n) ≡ 0
-      → record { number = 0; places = m; placed = true; words = w; made = 0 } ≡ beginOf s store n
+      → record { number = 0; places = m; placed = true; words = w; distinct = true; rising = true; above = 0; few = leb n keepable; kept = 0; made = 0 } ≡ beginOf s store n
   unfolding beginOf
-  begin-clear m w f g e = (λ i. begun 0 (f i) (g i)) ∙ ap (λ (r : ℕ). begun r (leafCount s) (allWords (primeOf s) store)) (sym e)
+  begin-clear m w f g e = (λ i. begun 0 (f i) (g i) (leb n keepable)) ∙ ap (λ (r : ℕ). begun r (leafCount s) (allWords (primeOf s) store) (leb n keepable)) (sym e)

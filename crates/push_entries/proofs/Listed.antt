@@ -5,24 +5,26 @@ use mathlib.Core.Bool.{Bool, true, false, not, _&&_}
 use mathlib.Core.List.{List, [], _∷_, _++_, append-assoc}
 use Prim.Native.Nat.{ℕ, _*_, _/_, _%_, _^_, _<_}
 use native.Mathlib.Omega.{arith}
-use lib.ListN.{length}
+use lib.ListN.{length, replicate}
 use borrow.Author.Tests.{eq-eqb, ne-eqb}
 use Rattle.refusals.specs.Table.{Refusal, refusal, firstRefusal, notWords, refused, reply, after}
 use Rattle.refusals.proofs.Table.{refusal-applies, first-front, first-none, refused-equations}
 use Rattle.parameters.specs.declared.ParameterSet.{ParameterSet}
 use Rattle.parameters.specs.ParameterSet.{primeOf, setRefusals}
 use Rattle.parameters.proofs.Accepted.{set-numbered}
+use Rattle.repeats.specs.Repeats.{repeats}
+use Rattle.repeats.specs.Maps.{mapWords}
 use Rattle.trees.specs.SetTrees.{leafCount, storeWords}
 use Rattle.tree_entries.specs.Trees.{has}
 use Rattle.change_entries.specs.declared.changed.Changed.{Changed}
 use Rattle.change_entries.specs.Replacement.{changedReply}
 use Rattle.pushes.specs.declared.record.Record.{Record}
 use Rattle.pushes.specs.declared.tally.Tally.{Tally}
-use Rattle.pushes.specs.Records.{placesBelow, usedWords}
+use Rattle.pushes.specs.Records.{placesOf, placesBelow, usedWords}
 use Rattle.push_entries.specs.Pushes.{fewRecords, pushing, pushRefusals, pushReply, pushed}
-use Rattle.pushes.specs.Passes.{Pass, pass, Going, eachOf}
+use Rattle.pushes.specs.Passes.{Pass, pass, keepable, Going, eachOf, searchOf}
 use Rattle.push_entries.specs.Ends.{beginOf, finishOf}
-use Rattle.push_entries.proofs.Passes.{begins, pushes, at-once, first-asks, second-asks}
+use Rattle.push_entries.proofs.Passes.{begins, afterTests, afterSearch, pushes, at-once, first-asks, second-asks, third-asks}
 use Rattle.pushes.specs.Listed.{listed, wholeRecords}
 use Rattle.push_entries.specs.Listed.{listedRefusals, listedReply, listedPushed}
 use Rattle.pushes.proofs.Listed.{listed-count}
@@ -45,7 +47,7 @@ module _ (s : ParameterSet) (xs ns : List ℕ) where
   -- ---- a list that is not of whole records
 
   abbrev late : List Refusal
-  late = refusal 11 (not (placesBelow (leafCount s) rs)) ∷ notWords (primeOf s) (usedWords (s .«node_size») rs ++ xs) ∷ []
+  late = refusal 11 (not (placesBelow (leafCount s) rs)) ∷ notWords (primeOf s) (usedWords (s .«node_size») rs ++ xs) ∷ refusal 17 (repeats (placesOf rs)) ∷ []
 
   part-refusal : length ns % 7 ≢ 0 → firstRefusal (listedRefusals s xs ns) ≡ partRefusal s
   unfolding listedRefusals wholeRecords
@@ -75,34 +77,40 @@ module _ (s : ParameterSet) (xs ns : List ℕ) where
 
   -- what it begins with, and what the passes ask
   module _ (b : Tally) (begun : b ≡ beginOf s xs (length ns / 7)) where
-    begun-tally : b ≡ beginOf s xs (length rs)
-    begun-tally = begun ∙ ap (beginOf s xs) (sym (listed-count ns))
-
-    begun-is : pass b xs ≡ begins s xs rs
-    begun-is = ap (λ (t : Tally). pass t xs) begun-tally
+    begun-is : b ≡ begins s xs rs
+    begun-is = begun ∙ ap (beginOf s xs) (sym (listed-count ns))
 
     pub early-is-refused : length ns % 7 ≡ 0 → b .number ≢ 0 → (refused (b .number) ≡ listedReply s xs ns) × (xs ≡ listedPushed s xs ns)
     early-is-refused w o =
-        let R = at-once s xs rs b begun-tally o in
+        let R = at-once s xs rs b begun-is o in
         (R .0 ∙ whole-reply w, R .1 ∙ whole-pushed w)
+
+    tests-are : (t : Tally) → t ≡ eachOf s 0 rs (pass b (replicate keepable 0)) .tally → t ≡ afterTests s xs rs
+    tests-are t e = e ∙ ap (λ (u : Tally). eachOf s 0 rs (pass u (replicate keepable 0)) .tally) begun-is
 
     module _ (bytes : length ns * 8 < 2 ^ 63) where
       record-bytes : length rs * 56 < 2 ^ 63
       record-bytes = omega (arith, bytes, listed-count ns)
 
-      pub test-asks : Going s xs b (length ns / 7)
-      test-asks = subst (Going s xs b) (listed-count ns) (subst (λ (t : Tally). Going s xs t (length rs)) (sym begun-tally) (first-asks s xs rs record-bytes))
+      -- for the count that the code has
+      counts-as : (phase : ℕ) (buffer : List ℕ) (t u : Tally) → t ≡ u → Going s phase buffer u (length rs) → Going s phase buffer t (length ns / 7)
+      counts-as phase buffer t u e G = subst (Going s phase buffer t) (listed-count ns) (subst (λ (v : Tally). Going s phase buffer v (length rs)) (sym e) G)
 
-      pub write-asks : (t : Tally) (ys : List ℕ) → (t ≡ eachOf s 0 rs (pass b xs) .tally) × (ys ≡ eachOf s 0 rs (pass b xs) .store) → Going s ys t (length ns / 7)
-      write-asks t ys e =
-          subst (Going s ys t) (listed-count ns)
-          (second-asks s xs rs record-bytes t ys (e .0 ∙ ap (λ (u : Pass). eachOf s 0 rs u .tally) begun-is) (e .1 ∙ ap (λ (u : Pass). eachOf s 0 rs u .store) begun-is))
+      pub test-asks : Going s 0 (replicate keepable 0) b (length ns / 7)
+      test-asks = counts-as 0 (replicate keepable 0) b (begins s xs rs) begun-is (first-asks s xs rs record-bytes)
 
-    pub whole-is-pushed : length ns % 7 ≡ 0 → (t t′ : Tally) (ys zs : List ℕ)
-        → (t ≡ eachOf s 0 rs (pass b xs) .tally) × (ys ≡ eachOf s 0 rs (pass b xs) .store)
-        → (t′ ≡ eachOf s 1 rs (pass t ys) .tally) × (zs ≡ eachOf s 1 rs (pass t ys) .store)
-        → (r : Changed) → r ≡ finishOf t′ → (changedReply r ≡ listedReply s xs ns) × (zs ≡ listedPushed s xs ns)
-    whole-is-pushed w t t′ ys zs e f r g =
-        let tested : pass t ys ≡ eachOf s 0 rs (begins s xs rs) = (λ i. pass (e .0 i) (e .1 i)) ∙ ap (eachOf s 0 rs) begun-is in
-        let written : pass t′ zs ≡ eachOf s 1 rs (eachOf s 0 rs (begins s xs rs)) = (λ i. pass (f .0 i) (f .1 i)) ∙ ap (eachOf s 1 rs) tested in
-        (ap changedReply (g ∙ ap (λ (u : Pass). finishOf (u .tally)) written) ∙ pushes s xs rs .0 ∙ whole-reply w, ap (λ (u : Pass). u .store) written ∙ pushes s xs rs .1 ∙ whole-pushed w)
+      module _ (t : Tally) (e : t ≡ eachOf s 0 rs (pass b (replicate keepable 0)) .tally) where
+        pub search-asks : Going s 2 (replicate mapWords 0) t (length ns / 7)
+        search-asks = counts-as 2 (replicate mapWords 0) t (afterTests s xs rs) (tests-are t e) (second-asks s xs rs record-bytes)
+
+        pub write-asks : (u : Tally) → u ≡ searchOf s rs t → Going s 1 xs u (length ns / 7)
+        write-asks u f = counts-as 1 xs u (afterSearch s xs rs) (f ∙ ap (searchOf s rs) (tests-are t e)) (third-asks s xs rs record-bytes)
+
+    pub whole-is-pushed : length ns % 7 ≡ 0 → (t t′ t″ : Tally) (zs : List ℕ)
+        → t ≡ eachOf s 0 rs (pass b (replicate keepable 0)) .tally → t′ ≡ searchOf s rs t
+        → (t″ ≡ eachOf s 1 rs (pass t′ xs) .tally) × (zs ≡ eachOf s 1 rs (pass t′ xs) .buffer)
+        → (r : Changed) → r ≡ finishOf t″ → (changedReply r ≡ listedReply s xs ns) × (zs ≡ listedPushed s xs ns)
+    whole-is-pushed w t t′ t″ zs e f g r h =
+        let searched : t′ ≡ afterSearch s xs rs = f ∙ ap (searchOf s rs) (tests-are t e) in
+        let written : pass t″ zs ≡ eachOf s 1 rs (pass (afterSearch s xs rs) xs) = (λ i. pass (g .0 i) (g .1 i)) ∙ ap (λ (u : Tally). eachOf s 1 rs (pass u xs)) searched in
+        (ap changedReply (h ∙ ap (λ (u : Pass). finishOf (u .tally)) written) ∙ pushes s xs rs .0 ∙ whole-reply w, ap (λ (u : Pass). u .buffer) written ∙ pushes s xs rs .1 ∙ whole-pushed w)

@@ -1,107 +1,122 @@
--- The two passes together give what `Pushes` says, whatever the set, the store and the records.
-use mathlib.Core.Path.{_≡_, refl, sym, ap, subst, _∙_}
-use mathlib.Core.Logic.{_≢_}
-use mathlib.Core.Bool.{Bool, true, false, cond, not, _&&_}
+-- The passes together give what `Pushes` says, whatever the set, the store and the records.
+use mathlib.Core.Path.{_≡_, refl, sym, ap, ap₂, subst, _∙_}
+use mathlib.Core.Logic.{_≢_, _⊎_, inl, inr}
+use mathlib.Core.Bool.{Bool, true, false, cond, not, _&&_, false≢true}
 use mathlib.Core.List.{List, [], _∷_, _++_, append-assoc}
-use Prim.Native.Nat.{ℕ, zero, suc, _+_, _*_, _^_, _<_}
+use Prim.Native.Nat.{ℕ, zero, suc, _+_, _*_, _^_, _≤_, _<_}
 use native.Mathlib.Omega.{arith}
-use lib.Dec.{eqb, ltb, leb}
-use lib.ListN.{length}
-use borrow.Author.Tests.{ne-eqb, eqb-true, not-false}
-use Rattle.modular.specs.Arithmetic.{isWord, allWords}
-use Rattle.modular.proofs.Words.{left-true, right-true}
+use lib.Dec.{lit<, eqb, ltb, leb}
+use lib.ListN.{length, replicate, length-replicate}
+use borrow.Author.Tests.{eq-eqb, ne-eqb, eqb-true, leb-true, not-false}
+use Rattle.modular.specs.Arithmetic.{allWords}
+use Rattle.modular.proofs.Words.{left-true, right-true, words-both}
 use Rattle.refusals.specs.Table.{Refusal, refusal, firstRefusal, notWords, refused}
-use Rattle.refusals.proofs.Table.{Numbered, refusal-applies, refusal-passes, refusal-none, first-front, first-back, first-none, refused-equations, done-equations}
-use Rattle.refusals.proofs.LengthsPlacesAndWords.{all-numbered, twelve, no-twelve}
-use Rattle.fields.specs.Prime.{prime}
+use Rattle.refusals.proofs.Table.{Numbered, none, next, numbered-append, refusal-applies, refusal-passes, refusal-none, first-front, first-back, first-none, refused-equations, done-equations}
+use Rattle.refusals.proofs.LengthsPlacesAndWords.{twelve-first, twelve-passed}
 use Rattle.parameters.specs.declared.ParameterSet.{ParameterSet}
 use Rattle.parameters.specs.ParameterSet.{primeOf, setRefusals}
 use Rattle.parameters.proofs.Accepted.{set-numbered}
 use Rattle.merkle.specs.Replacement.{Counted, replaceFrom, pushFrom, push}
+use Rattle.repeats.specs.Repeats.{repeats, member}
+use Rattle.repeats.specs.Maps.{mapWords}
+use Rattle.repeats.proofs.Members.{member-none}
 use Rattle.trees.specs.Shapes.{counted}
 use Rattle.trees.specs.SetTrees.{treeOf, leafCount, storeWords}
 use Rattle.tree_entries.specs.Trees.{has}
 use Rattle.change_entries.specs.Replacement.{changedReply}
 use Rattle.pushes.specs.declared.record.Record.{Record}
 use Rattle.pushes.specs.declared.tally.Tally.{Tally}
-use Rattle.pushes.specs.Records.{leafOf, changesOf, placesBelow, usedWords}
+use Rattle.pushes.specs.Records.{leafOf, changesOf, placesOf, placesBelow, usedWords}
 use Rattle.push_entries.specs.Pushes.{pushRefusals, pushing, pushReply, pushed}
-use Rattle.pushes.specs.Passes.{Pass, pass, Going, testOf, mayWrite, wrote, writeOf, stepOf, eachOf}
+use Rattle.pushes.specs.Passes.{Pass, pass, keepable, testOf, isClear, mayWrite, counting, wrote, writeOf, finding, stepOf, eachOf, wanted, searchOf, roomOf, Going}
+use Rattle.pushes.proofs.Tests.{Tested, tested-all, Seen, seen-all}
+use Rattle.pushes.proofs.Searching.{search-none, search-finds, search-only}
 use Rattle.push_entries.specs.Ends.{earlyRefusals, begun, beginOf, finishOf}
 use Rattle.push_entries.proofs.Early.{early-numbered}
 
--- ---- tests
-
-and-assoc : (a b c : Bool) → (a && b) && c ≡ a && (b && c)
-and-assoc true b c = refl
-and-assoc false b c = refl
-
-and-comm : (a b : Bool) → a && b ≡ b && a
+and-comm : (a b : Bool) → (a && b) ≡ (b && a)
 and-comm true true = refl
 and-comm true false = refl
 and-comm false true = refl
 and-comm false false = refl
 
-and-end : (a : Bool) → a && true ≡ a
-and-end true = refl
-and-end false = refl
+-- ---- tallies that allow no write
 
-words-of-both : (xs ys : List ℕ) → allWords prime (xs ++ ys) ≡ allWords prime xs && allWords prime ys
-unfolding allWords
-words-of-both [] ys = refl
-words-of-both (x ∷ xs) ys = ap (λ (b : Bool). isWord prime x && b) (words-of-both xs ys) ∙ sym (and-assoc (isWord prime x) (allWords prime xs) (allWords prime ys))
+and-false : (a b : Bool) → b ≡ false → (a && b) ≡ false
+and-false true b e = e
+and-false false b e = refl
 
--- ---- one pass
+-- a refusal up to 12
+module _ (t : Tally) where
+  unclear-early : eqb (t .number) 0 ≡ false → isClear t ≡ false
+  unfolding isClear
+  unclear-early e = ap (λ (b : Bool). b && (t .placed && t .words)) e
 
--- a tally that has no refusal before 11
-abbrev clear : ℕ → Bool → Bool → ℕ → Tally
-clear n b w m = record { number = 0; places = n; placed = b; words = w; made = m }
+  unclear-places : t .placed ≡ false → isClear t ≡ false
+  unfolding isClear
+  unclear-places e = and-false (eqb (t .number) 0) (t .placed && t .words) (ap (λ (b : Bool). b && t .words) e)
+
+  unclear-words : t .words ≡ false → isClear t ≡ false
+  unfolding isClear
+  unclear-words e = and-false (eqb (t .number) 0) (t .placed && t .words) (and-false (t .placed) (t .words) e)
+
+  -- then no search is wanted
+  unwanted : isClear t ≡ false → wanted t ≡ false
+  unfolding wanted
+  unwanted e = ap (λ (b : Bool). b && (not (t .rising) && not (t .few))) e
+
+  -- nor anything written, nor after a place that was found twice
+  abbrev Stopped : Type 0
+  Stopped = (isClear t ≡ false) ⊎ (t .distinct ≡ false)
+
+  no-write : (q : ℕ) → Stopped → mayWrite t q ≡ false
+  unfolding mayWrite
+  no-write q (inl e) = ap (λ (b : Bool). b && (t .distinct && ltb q (t .places))) e
+  no-write q (inr e) = and-false (isClear t) (t .distinct && ltb q (t .places)) (ap (λ (b : Bool). b && ltb q (t .places)) e)
 
 module _ (s : ParameterSet) where
-  test-all : (rs : List Record) (n : ℕ) (b w : Bool) (m : ℕ) (store : List ℕ)
-      → eachOf s 0 rs (pass (clear n b w m) store) ≡ pass (clear n (b && placesBelow n rs) (w && allWords (primeOf s) (usedWords (s .«node_size») rs)) m) store
-  unfolding eachOf stepOf testOf placesBelow usedWords allWords
-  test-all [] n b w m store = λ i. pass (clear n (sym (and-end b) i) (sym (and-end w) i) m) store
-  test-all (r ∷ rs) n b w m store =
-      let x : Bool = ltb (r .place) n in
-      let y : Bool = allWords (primeOf s) (leafOf (s .«node_size») r) in
-      let ys : List ℕ = usedWords (s .«node_size») rs in
-      let places = and-assoc b x (placesBelow n rs) in
-      let words = and-assoc w y (allWords (primeOf s) ys) ∙ ap (λ (v : Bool). w && v) (sym (words-of-both (leafOf (s .«node_size») r) ys)) in
-      test-all rs n (b && x) (w && y) m store ∙ (λ i. pass (clear n (places i) (words i) m) store)
-
-  -- a tally with a refusal stays
-  test-stays : (r : Record) (t : Tally) (store : List ℕ) → eqb (t .number) 0 ≡ false → stepOf s 0 r (pass t store) ≡ pass t store
-  unfolding stepOf testOf
-  test-stays r t store e = rw e
-
-  test-none : (rs : List Record) (t : Tally) (store : List ℕ) → eqb (t .number) 0 ≡ false → eachOf s 0 rs (pass t store) ≡ pass t store
-  unfolding eachOf
-  test-none [] t store e = refl
-  test-none (r ∷ rs) t store e = ap (eachOf s 0 rs) (test-stays r t store e) ∙ test-none rs t store e
-
-  -- and so does one that allows no write
   write-stays : (r : Record) (u : Pass) → mayWrite (u .tally) (r .place) ≡ false → stepOf s 1 r u ≡ u
   unfolding stepOf writeOf
   write-stays r u e = rw e
 
-  write-none : (rs : List Record) (u : Pass) → ((q : ℕ) → mayWrite (u .tally) q ≡ false) → eachOf s 1 rs u ≡ u
+  write-none : (rs : List Record) (t : Tally) (store : List ℕ) → Stopped t → eachOf s 1 rs (pass t store) ≡ pass t store
   unfolding eachOf
-  write-none [] u e = refl
-  write-none (r ∷ rs) u e = ap (eachOf s 1 rs) (write-stays r u (e (r .place))) ∙ write-none rs u e
+  write-none [] t store S = refl
+  write-none (r ∷ rs) t store S = ap (eachOf s 1 rs) (write-stays r (pass t store) (no-write t (r .place) S)) ∙ write-none rs t store S
 
-  write-all : (rs : List Record) (n m : ℕ) (store : List ℕ) → placesBelow n rs ≡ true
-      → eachOf s 1 rs (pass (clear n true true m) store)
-      ≡ wrote (clear n true true m) (pushFrom (treeOf s) (s .height) (changesOf (s .«node_size») rs) (counted store m))
-  unfolding eachOf stepOf writeOf mayWrite placesBelow changesOf pushFrom
-  write-all [] n m store e = refl
-  write-all (r ∷ rs) n m store e =
-      let u : Pass = pass (clear n true true m) store in
-      let c : Counted = replaceFrom (treeOf s) (s .height) (r .place) (leafOf (s .«node_size») r) (counted store m) in
-      ap (λ (b : Bool). eachOf s 1 rs (cond b (wrote (clear n true true m) c) u)) (left-true (ltb (r .place) n) (placesBelow n rs) e)
-      ∙ write-all rs n (c .made) (c .store) (right-true (ltb (r .place) n) (placesBelow n rs) e)
+  -- a tally with an early refusal stays in the tests too
+  test-stays : (r : Record) (t : Tally) (seen : List ℕ) → eqb (t .number) 0 ≡ false → stepOf s 0 r (pass t seen) ≡ pass t seen
+  unfolding stepOf testOf
+  test-stays r t seen e = rw e
 
--- ---- both
+  test-none : (rs : List Record) (t : Tally) (seen : List ℕ) → eqb (t .number) 0 ≡ false → eachOf s 0 rs (pass t seen) ≡ pass t seen
+  unfolding eachOf
+  test-none [] t seen e = refl
+  test-none (r ∷ rs) t seen e = ap (eachOf s 0 rs) (test-stays r t seen e) ∙ test-none rs t seen e
+
+  -- ---- a tally that allows every write
+
+  -- nothing is refused
+  record Clear (t : Tally) : Type 0 where
+    pub number : t .number ≡ 0
+    pub placed : t .placed ≡ true
+    pub words : t .words ≡ true
+    pub distinct : t .distinct ≡ true
+
+  write-all : (rs : List Record) (t : Tally) (store : List ℕ) → Clear t → placesBelow (t .places) rs ≡ true
+      → eachOf s 1 rs (pass t store) ≡ wrote t (pushFrom (treeOf s) (s .height) (changesOf (s .«node_size») rs) (counted store (t .made)))
+  unfolding eachOf placesBelow changesOf pushFrom stepOf writeOf mayWrite isClear
+  write-all [] t store C e = refl
+  write-all (r ∷ rs) t store C e =
+      let c : Counted = replaceFrom (treeOf s) (s .height) (r .place) (leafOf (s .«node_size») r) (counted store (t .made)) in
+      ap (eachOf s 1 rs) step-is
+      ∙ write-all rs (counting t (c .made)) (c .store) (record { number = C .number; placed = C .placed; words = C .words; distinct = C .distinct })
+      (right-true (ltb (r .place) (t .places)) (placesBelow (t .places) rs) e)
+    where
+      step-is : stepOf s 1 r (pass t store) ≡ wrote t (replaceFrom (treeOf s) (s .height) (r .place) (leafOf (s .«node_size») r) (counted store (t .made)))
+      step-is = rw (eq-eqb (t .number) 0 (C .number), C .placed, C .words, C .distinct, left-true (ltb (r .place) (t .places)) (placesBelow (t .places) rs) e)
+
+-- ---- all of them
 
 module _ (s : ParameterSet) (xs : List ℕ) (ys : List Record) where
   abbrev n : ℕ
@@ -110,128 +125,242 @@ module _ (s : ParameterSet) (xs : List ℕ) (ys : List Record) where
   abbrev used : List ℕ
   used = usedWords (s .«node_size») ys
 
-  abbrev early : List Refusal
-  early = earlyRefusals s xs (length ys)
+  abbrev early-rows : List Refusal
+  early-rows = earlyRefusals s xs (length ys)
 
   abbrev late : List Refusal
-  late = refusal 11 (not (placesBelow n ys)) ∷ notWords (primeOf s) (used ++ xs) ∷ []
+  late = refusal 11 (not (placesBelow n ys)) ∷ notWords (primeOf s) (used ++ xs) ∷ refusal 17 (repeats (placesOf ys)) ∷ []
 
-  -- after the first pass, by the first of the early refusals
-  abbrev tested : ℕ → Tally
-  tested zero = clear n (placesBelow n ys) (allWords (primeOf s) xs && allWords (primeOf s) used) 0
-  tested (suc k) = begun (suc k) n (allWords (primeOf s) xs)
+  abbrev room : List ℕ
+  room = replicate keepable 0
 
-  first-pass : (k : ℕ) → eachOf s 0 ys (pass (begun k n (allWords (primeOf s) xs)) xs) ≡ pass (tested k) xs
-  first-pass zero = test-all s ys n true (allWords (primeOf s) xs) 0 xs
-  first-pass (suc k) = test-none s ys (begun (suc k) n (allWords (primeOf s) xs)) xs (ne-eqb (suc k) 0 (λ z. absurd (omega (arith, z))))
+  -- the tally at the beginning, by the first of the early refusals
+  abbrev first : ℕ → Tally
+  first k = begun k n (allWords (primeOf s) xs) (leb (length ys) keepable)
 
-  refusals-are : pushRefusals s xs ys ≡ early ++ late
+  -- after the tests, and after the search
+  abbrev tests : Tally → Tally
+  tests t = eachOf s 0 ys (pass t room) .tally
+
+  abbrev judges : Tally → Tally
+  judges t = searchOf s ys (tests t)
+
+  refusals-are : pushRefusals s xs ys ≡ early-rows ++ late
   unfolding pushRefusals earlyRefusals
   refusals-are = sym (append-assoc (setRefusals s) (refusal 10 (not (has xs (storeWords s) && leb (length ys) (2 ^ 32))) ∷ []) late)
 
   push-numbered : Numbered (pushRefusals s xs ys)
-  unfolding pushRefusals
-  push-numbered = all-numbered (primeOf s) _ (set-numbered s) _ _ _
+  unfolding pushRefusals notWords
+  push-numbered = numbered-append (set-numbered s) (next (lit< tt) (next (lit< tt) (next (lit< tt) (next (lit< tt) none))))
 
-  late-refusal : firstRefusal early ≡ 0 → firstRefusal (pushRefusals s xs ys) ≡ firstRefusal late
-  late-refusal e = ap firstRefusal refusals-are ∙ first-back early late (early-numbered s xs (length ys)) e
+  late-refusal : firstRefusal early-rows ≡ 0 → firstRefusal (pushRefusals s xs ys) ≡ firstRefusal late
+  late-refusal e = ap firstRefusal refusals-are ∙ first-back early-rows late (early-numbered s xs (length ys)) e
 
   -- what the push claims of the tally and the store at its end
   abbrev Right : Pass → Type 0
-  Right u = (changedReply (finishOf (u .tally)) ≡ pushReply s xs ys) × (u .store ≡ pushed s xs ys)
+  Right u = (changedReply (finishOf (u .tally)) ≡ pushReply s xs ys) × (u .buffer ≡ pushed s xs ys)
 
-  is-refused : (k : ℕ) (t : Tally) → changedReply (finishOf t) ≡ refused k → k ≢ 0 → firstRefusal (pushRefusals s xs ys) ≡ k → Right (pass t xs)
+  -- a push that stops with a number
+  is-refused : (k : ℕ) (t : Tally) → Stopped t → changedReply (finishOf t) ≡ refused k → k ≢ 0 → firstRefusal (pushRefusals s xs ys) ≡ k → Right (eachOf s 1 ys (pass t xs))
   unfolding pushReply pushed
-  is-refused k t f o e =
+  is-refused k t S f o e =
       let E = refused-equations (pushRefusals s xs ys) (pushing s xs ys .made ∷ []) xs (pushing s xs ys .store) k (sym e) o in
-      (f ∙ E .0, E .1)
+      subst Right (sym (write-none s ys t xs S)) (f ∙ E .0, E .1)
 
-  second-pass : (b w : Bool) → placesBelow n ys ≡ b → allWords (primeOf s) xs && allWords (primeOf s) used ≡ w → firstRefusal early ≡ 0 → Right (eachOf s 1 ys (pass (clear n b w 0) xs))
-  unfolding mayWrite finishOf changedReply pushReply pushed push
-  second-pass true true f g e =
-      let words : allWords (primeOf s) (used ++ xs) ≡ true = words-of-both used xs ∙ and-comm (allWords (primeOf s) used) (allWords (primeOf s) xs) ∙ g in
-      let z = late-refusal e ∙ refusal-passes 11 (not (placesBelow n ys)) (notWords (primeOf s) (used ++ xs) ∷ []) (ap not f) ∙ no-twelve (primeOf s) (used ++ xs) words in
-      subst Right (sym (write-all s ys n 0 xs f)) (done-equations (pushRefusals s xs ys) (pushing s xs ys .made ∷ []) xs (pushing s xs ys .store) push-numbered z)
-  second-pass true false f g e =
-      let words : allWords (primeOf s) (used ++ xs) ≡ false = words-of-both used xs ∙ and-comm (allWords (primeOf s) used) (allWords (primeOf s) xs) ∙ g in
-      let z = late-refusal e ∙ refusal-passes 11 (not (placesBelow n ys)) (notWords (primeOf s) (used ++ xs) ∷ []) (ap not f) ∙ twelve (primeOf s) (used ++ xs) words in
-      subst Right (sym (write-none s ys (pass (clear n true false 0) xs) no-words)) (is-refused 12 (clear n true false 0) refl (λ y. absurd (omega (arith, y))) z)
-    where
-      no-words : (q : ℕ) → mayWrite (clear n true false 0) q ≡ false
-      no-words q = refl
-  second-pass false w f g e =
-      let z = late-refusal e ∙ refusal-applies 11 (not (placesBelow n ys)) (notWords (primeOf s) (used ++ xs) ∷ []) (ap not f) in
-      subst Right (sym (write-none s ys (pass (clear n false w 0) xs) no-place)) (is-refused 11 (clear n false w 0) refl (λ y. absurd (omega (arith, y))) z)
-    where
-      no-place : (q : ℕ) → mayWrite (clear n false w 0) q ≡ false
-      no-place q = refl
+  -- ---- an early refusal
 
-  both-passes : (k : ℕ) → firstRefusal early ≡ k → Right (eachOf s 1 ys (pass (tested k) xs))
-  unfolding mayWrite finishOf changedReply
-  both-passes zero e = second-pass (placesBelow n ys) (allWords (primeOf s) xs && allWords (primeOf s) used) refl refl e
-  both-passes (suc k) e =
-      let z = ap firstRefusal refusals-are ∙ first-front early late (λ y. absurd (omega (arith, e, y))) ∙ e in
-      subst Right (sym (write-none s ys (pass (tested (suc k)) xs) is-refused-early)) (is-refused (suc k) (tested (suc k)) finished (λ y. absurd (omega (arith, y))) z)
-    where
-      no : eqb (suc k) 0 ≡ false
-      no = ne-eqb (suc k) 0 (λ z. absurd (omega (arith, z)))
+  module _ (k : ℕ) (e : firstRefusal early-rows ≡ suc k) where
+    abbrev t₁ : Tally
+    t₁ = first (suc k)
 
-      is-refused-early : (q : ℕ) → mayWrite (tested (suc k)) q ≡ false
-      is-refused-early q = rw no
+    refused-early : eqb (t₁ .number) 0 ≡ false
+    refused-early = ne-eqb (suc k) 0 (λ z. absurd (omega (arith, z)))
 
-      finished : changedReply (finishOf (tested (suc k))) ≡ refused (suc k)
-      finished = rw no
+    judged-early : judges t₁ ≡ t₁
+    judged-early = ap (λ (u : Pass). searchOf s ys (u .tally)) (test-none s ys t₁ room refused-early) ∙ search-none s ys t₁ (unwanted t₁ (unclear-early t₁ refused-early))
 
-  -- the push, from its beginning
-  abbrev pub begins : Pass
-  begins = pass (beginOf s xs (length ys)) xs
+    stops-early : Right (eachOf s 1 ys (pass (judges t₁) xs))
+    unfolding finishOf changedReply
+    stops-early =
+        subst (λ (t : Tally). Right (eachOf s 1 ys (pass t xs))) (sym judged-early)
+        (is-refused (suc k) t₁ (inl (unclear-early t₁ refused-early)) (rw refused-early) (λ y. absurd (omega (arith, y)))
+        (ap firstRefusal refusals-are ∙ first-front early-rows late (λ y. absurd (omega (arith, e, y))) ∙ e))
 
-  pub pushes : Right (eachOf s 1 ys (eachOf s 0 ys begins))
+  -- ---- none
+
+  module _ (e : firstRefusal early-rows ≡ 0) where
+    abbrev t₂ : Tally
+    t₂ = tests (first 0)
+
+    T : Tested s ys (first 0) t₂
+    T = tested-all s ys (first 0) room refl
+
+    clear-number : eqb (t₂ .number) 0 ≡ true
+    clear-number = eq-eqb (t₂ .number) 0 (T .number)
+
+    -- 11 and 12 stop the push before the search
+    at-11 : placesBelow n ys ≡ false → Right (eachOf s 1 ys (pass (judges (first 0)) xs))
+    unfolding finishOf changedReply
+    at-11 f =
+        let p : t₂ .placed ≡ false = T .placed ∙ f in
+        subst (λ (t : Tally). Right (eachOf s 1 ys (pass t xs))) (sym (search-none s ys t₂ (unwanted t₂ (unclear-places t₂ p))))
+        (is-refused 11 t₂ (inl (unclear-places t₂ p)) (rw (clear-number, p)) (λ y. absurd (omega (arith, y))) (late-refusal e ∙ refusal-applies 11 (not (placesBelow n ys)) _ (ap not f)))
+
+    module _ (below : placesBelow n ys ≡ true) where
+      after-11 : firstRefusal (pushRefusals s xs ys) ≡ firstRefusal (notWords (primeOf s) (used ++ xs) ∷ refusal 17 (repeats (placesOf ys)) ∷ [])
+      after-11 = late-refusal e ∙ refusal-passes 11 (not (placesBelow n ys)) _ (ap not below)
+
+      placed : t₂ .placed ≡ true
+      placed = T .placed ∙ below
+
+      all-words : allWords (primeOf s) (used ++ xs) ≡ (allWords (primeOf s) xs && allWords (primeOf s) used)
+      all-words = words-both (primeOf s) used xs ∙ and-comm (allWords (primeOf s) used) (allWords (primeOf s) xs)
+
+      at-12 : (allWords (primeOf s) xs && allWords (primeOf s) used) ≡ false → Right (eachOf s 1 ys (pass (judges (first 0)) xs))
+      unfolding finishOf changedReply
+      at-12 f =
+          let w : t₂ .words ≡ false = T .words ∙ f in
+          subst (λ (t : Tally). Right (eachOf s 1 ys (pass t xs))) (sym (search-none s ys t₂ (unwanted t₂ (unclear-words t₂ w))))
+          (is-refused 12 t₂ (inl (unclear-words t₂ w)) (rw (clear-number, placed, w)) (λ y. absurd (omega (arith, y))) (after-11 ∙ twelve-first (primeOf s) (used ++ xs) _ (all-words ∙ f)))
+
+      module _ (wordy : (allWords (primeOf s) xs && allWords (primeOf s) used) ≡ true) where
+        after-12 : firstRefusal (pushRefusals s xs ys) ≡ firstRefusal (refusal 17 (repeats (placesOf ys)) ∷ [])
+        after-12 = after-11 ∙ twelve-passed (primeOf s) (used ++ xs) _ (all-words ∙ wordy)
+
+        nothing-seen : Seen [] (first 0) room
+        unfolding repeats
+        nothing-seen = record {
+          room = length-replicate {A = ℕ} keepable 0;
+          below = λ z x m. absurd (false≢true (sym (member-none x) ∙ m));
+          risen = λ z. repeats-none;
+          kept = λ z. refl;
+          count = λ z. refl;
+          compared = λ z. sym (ap not repeats-none);
+          left = λ z. refl;
+        }
+          where
+            repeats-none : repeats [] ≡ false
+            repeats-none = refl
+
+        all-seen : Seen (placesOf ys) t₂ (eachOf s 0 ys (pass (first 0) room) .buffer)
+        all-seen = seen-all s ys [] (first 0) room refl nothing-seen below (λ f. omega (arith, leb-true (length ys) keepable f))
+
+        judged : judges (first 0) ≡ finding t₂ (not (repeats (placesOf ys)))
+        judged =
+            search-finds s ys t₂ (eachOf s 0 ys (pass (first 0) room) .buffer) (T .number) placed (T .words ∙ wordy)
+            (subst (λ (m : ℕ). placesBelow m ys ≡ true) (sym (T .places)) below) all-seen
+
+        at-17 : (b : Bool) → repeats (placesOf ys) ≡ b → Right (eachOf s 1 ys (pass (finding t₂ (not b)) xs))
+        unfolding finishOf changedReply pushReply pushed push firstRefusal
+        at-17 true f =
+            is-refused 17 (finding t₂ false) (inr refl) (rw (clear-number, placed, T .words ∙ wordy)) (λ y. absurd (omega (arith, y)))
+            (after-12 ∙ refusal-applies 17 (repeats (placesOf ys)) [] f)
+        at-17 false f =
+            let t : Tally = finding t₂ true in
+            let z = after-12 ∙ refusal-passes 17 (repeats (placesOf ys)) [] f in
+            let E = done-equations (pushRefusals s xs ys) (pushing s xs ys .made ∷ []) xs (pushing s xs ys .store) push-numbered z in
+            let C : Clear s t = record { number = T .number; placed = placed; words = T .words ∙ wordy; distinct = refl } in
+            let W : eachOf s 1 ys (pass t xs) ≡ wrote t (pushing s xs ys) =
+            write-all s ys t xs C (subst (λ (m : ℕ). placesBelow m ys ≡ true) (sym (T .places)) below)
+            ∙ ap (λ (m : ℕ). wrote t (pushFrom (treeOf s) (s .height) (changesOf (s .«node_size») ys) (counted xs m))) (T .made) in
+            subst Right (sym W) (finished t (pushing s xs ys .made) C ∙ E .0, E .1)
+          where
+            finished : (t : Tally) (m : ℕ) → Clear s t → changedReply (finishOf (counting t m)) ≡ Rattle.refusals.specs.Table.done (m ∷ [])
+            finished t m C = rw (eq-eqb (t .number) 0 (C .number), C .placed, C .words, C .distinct)
+
+        searched : Right (eachOf s 1 ys (pass (judges (first 0)) xs))
+        searched = subst (λ (t : Tally). Right (eachOf s 1 ys (pass t xs))) (sym judged) (at-17 (repeats (placesOf ys)) refl)
+
+    by-words : placesBelow n ys ≡ true → (w : Bool) → (allWords (primeOf s) xs && allWords (primeOf s) used) ≡ w → Right (eachOf s 1 ys (pass (judges (first 0)) xs))
+    by-words b true f = searched b f
+    by-words b false f = at-12 b f
+
+    by-places : (b : Bool) → placesBelow n ys ≡ b → Right (eachOf s 1 ys (pass (judges (first 0)) xs))
+    by-places true f = by-words f (allWords (primeOf s) xs && allWords (primeOf s) used) refl
+    by-places false f = at-11 f
+
+  by-early : (k : ℕ) → firstRefusal early-rows ≡ k → Right (eachOf s 1 ys (pass (judges (first k)) xs))
+  by-early zero e = by-places e (placesBelow n ys) refl
+  by-early (suc k) e = stops-early k e
+
+  -- ---- the push, from its beginning
+
+  abbrev pub begins : Tally
+  begins = beginOf s xs (length ys)
+
+  abbrev pub afterTests : Tally
+  afterTests = eachOf s 0 ys (pass begins (replicate keepable 0)) .tally
+
+  abbrev pub afterSearch : Tally
+  afterSearch = searchOf s ys afterTests
+
+  pub pushes : Right (eachOf s 1 ys (pass afterSearch xs))
   unfolding beginOf
-  pushes = subst (λ (u : Pass). Right (eachOf s 1 ys u)) (sym (first-pass (firstRefusal early))) (both-passes (firstRefusal early) refl)
+  pushes = by-early (firstRefusal early-rows) refl
 
-  -- where an early refusal applies, neither pass changes anything
-  pub at-once : (t : Tally) → t ≡ beginOf s xs (length ys) → t .number ≢ 0 → (refused (t .number) ≡ pushReply s xs ys) × (xs ≡ pushed s xs ys)
-  unfolding mayWrite finishOf changedReply
-  at-once t e o =
-      let no : eqb (t .number) 0 ≡ false = ne-eqb (t .number) 0 o in
-      let tests : eachOf s 0 ys (pass t xs) ≡ pass t xs = test-none s ys t xs no in
-      let writes : eachOf s 1 ys (pass t xs) ≡ pass t xs = write-none s ys (pass t xs) (λ q. rw no) in
-      let stays = ap (λ (u : Tally). eachOf s 1 ys (eachOf s 0 ys (pass u xs))) (sym e) ∙ ap (eachOf s 1 ys) tests ∙ writes in
-      let said : changedReply (finishOf t) ≡ refused (t .number) = rw no in
-      let R = subst Right stays pushes in
-      (sym said ∙ R .0, R .1)
+  -- an early refusal stops it at once
+  pub at-once : (t : Tally) → t ≡ begins → t .number ≢ 0 → (refused (t .number) ≡ pushReply s xs ys) × (xs ≡ pushed s xs ys)
+  unfolding beginOf pushReply pushed
+  at-once t e o = subst (λ (u : Tally). (refused (u .number) ≡ pushReply s xs ys) × (xs ≡ pushed s xs ys)) (sym e) (go (firstRefusal early-rows) refl (subst (λ (u : Tally). u .number ≢ 0) e o))
+    where
+      go : (k : ℕ) → firstRefusal early-rows ≡ k → first k .number ≢ 0 → (refused (first k .number) ≡ pushReply s xs ys) × (xs ≡ pushed s xs ys)
+      go zero f o = absurd (o refl)
+      go (suc k) f o =
+          refused-equations (pushRefusals s xs ys) (pushing s xs ys .made ∷ []) xs (pushing s xs ys .store) (suc k)
+          (sym (ap firstRefusal refusals-are ∙ first-front early-rows late (λ y. absurd (omega (arith, f, y))) ∙ f)) (λ y. absurd (omega (arith, y)))
 
   -- ---- what the passes presume
 
   module _ (bytes : length ys * 56 < 2 ^ 63) where
-    accepts : (t : Tally) → (t .number ≡ 0 → firstRefusal early ≡ 0) → (t .number ≡ 0 → t .places ≡ n) → t .made ≡ 0 → Going s xs t (length ys)
+    -- a tally in the course of a push
+    record Way (t : Tally) : Type 0 where
+      pub early : t .number ≡ 0 → firstRefusal early-rows ≡ 0
+      pub places : t .number ≡ 0 → t .places ≡ n
+      pub made : t .made ≡ 0
+
+    asks : (phase : ℕ) (buffer : List ℕ) (t : Tally) → Way t → (t .number ≡ 0 → length xs ≡ storeWords s → length buffer ≡ roomOf s phase)
+        → (phase ≡ 0 → t .few ≡ true → t .kept + length ys ≤ keepable) → phase < 2 ^ 32 → Going s phase buffer t (length ys)
     unfolding earlyRefusals
-    accepts t z places e =
+    asks phase buffer t way whole keeps low =
         record {
-          accepted = λ f. first-none (setRefusals s) _ (set-numbered s) (z f) .0;
+          accepted = λ f. first-none (setRefusals s) _ (set-numbered s) (way .early f) .0;
           whole = λ f.
-              let lengths = refusal-none 9 _ [] (first-none (setRefusals s) _ (set-numbered s) (z f) .1) .0 in
-              eqb-true (length xs) (storeWords s) (left-true (has xs (storeWords s)) (leb (length ys) (2 ^ 32)) (not-false _ lengths));
-          places = places;
-          counts = omega (arith, bytes, e);
+              let lengths = refusal-none 9 _ [] (first-none (setRefusals s) _ (set-numbered s) (way .early f) .1) .0 in
+              whole f (eqb-true (length xs) (storeWords s) (left-true (has xs (storeWords s)) (leb (length ys) (2 ^ 32)) (not-false _ lengths)));
+          places = way .places;
+          keeps = keeps;
+          counts = omega (arith, bytes, way .made);
+          low = low;
         }
 
-    begun-going : (k : ℕ) → firstRefusal early ≡ k → Going s xs (begun k n (allWords (primeOf s) xs)) (length ys)
-    begun-going zero e = accepts (begun 0 n (allWords (primeOf s) xs)) (λ f. e) (λ f. refl) refl
-    begun-going (suc k) e = accepts (begun (suc k) n (allWords (primeOf s) xs)) (λ f. absurd (omega (arith, f))) (λ f. absurd (omega (arith, f))) refl
+    way-first : (k : ℕ) → firstRefusal early-rows ≡ k → Way (first k)
+    way-first zero e = record { early = λ f. e; places = λ f. refl; made = refl }
+    way-first (suc k) e = record { early = λ f. absurd (omega (arith, f)); places = λ f. absurd (omega (arith, f)); made = refl }
 
-    tested-going : (k : ℕ) → firstRefusal early ≡ k → Going s xs (tested k) (length ys)
-    tested-going zero e = accepts (tested 0) (λ f. e) (λ f. refl) refl
-    tested-going (suc k) e = begun-going (suc k) e
+    keeps-first : (k : ℕ) → first k .few ≡ true → first k .kept + length ys ≤ keepable
+    keeps-first zero f = omega (arith, leb-true (length ys) keepable f)
+    keeps-first (suc k) f = absurd (false≢true f)
 
-    pub first-asks : Going s xs (beginOf s xs (length ys)) (length ys)
-    unfolding beginOf
-    first-asks = begun-going (firstRefusal early) refl
+    way-tests : (k : ℕ) → firstRefusal early-rows ≡ k → Way (tests (first k))
+    way-tests zero e =
+        let T = tested-all s ys (first 0) room refl in
+        record { early = λ f. e; places = λ f. T .places; made = T .made }
+    way-tests (suc k) e =
+        subst Way (sym (ap (λ (u : Pass). u .tally) (test-none s ys (first (suc k)) room (ne-eqb (suc k) 0 (λ z. absurd (omega (arith, z))))))) (way-first (suc k) e)
 
-    pub second-asks : (t : Tally) (zs : List ℕ) → t ≡ eachOf s 0 ys begins .tally → zs ≡ eachOf s 0 ys begins .store → Going s zs t (length ys)
-    unfolding beginOf
-    second-asks t zs f g =
-        let k : ℕ = firstRefusal early in
-        let e = first-pass k in
-        subst (λ (u : Pass). Going s (u .store) (u .tally) (length ys)) (λ i. pass (sym (f ∙ ap (λ (u : Pass). u .tally) e) i) (sym (g ∙ ap (λ (u : Pass). u .store) e) i)) (tested-going k refl)
+    way-search : (t : Tally) → Way t → Way (searchOf s ys t)
+    way-search t way =
+        let d = search-only s ys t in
+        subst Way (sym (d .1)) (record { early = way .early; places = way .places; made = way .made })
+
+    pub first-asks : Going s 0 (replicate keepable 0) begins (length ys)
+    unfolding beginOf roomOf
+    first-asks = asks 0 room begins (way-first (firstRefusal early-rows) refl) (λ f l. length-replicate {A = ℕ} keepable 0) (λ z. keeps-first (firstRefusal early-rows)) (lit< tt)
+
+    pub second-asks : Going s 2 (replicate mapWords 0) afterTests (length ys)
+    unfolding beginOf roomOf
+    second-asks = asks 2 (replicate mapWords 0) afterTests (way-tests (firstRefusal early-rows) refl) (λ f l. length-replicate {A = ℕ} mapWords 0) (λ z. absurd (omega (arith, z))) (lit< tt)
+
+    pub third-asks : Going s 1 xs afterSearch (length ys)
+    unfolding beginOf roomOf
+    third-asks = asks 1 xs afterSearch (way-search afterTests (way-tests (firstRefusal early-rows) refl)) (λ f l. l) (λ z. absurd (omega (arith, z))) (lit< tt)

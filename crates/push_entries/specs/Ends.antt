@@ -1,6 +1,6 @@
 -- Where a push begins and what it answers at its end, as its code has them. Nothing here has to be believed: `proofs/Passes.antt` equates the
 -- whole with `Pushes`.
-use mathlib.Core.Bool.{Bool, true, cond, not, _&&_}
+use mathlib.Core.Bool.{Bool, true, false, cond, not, _&&_}
 use mathlib.Core.List.{List, [], _∷_, _++_}
 use Prim.Native.Nat.{ℕ, zero, suc, _^_}
 use lib.Dec.{eqb, leb}
@@ -13,19 +13,26 @@ use Rattle.tree_entries.specs.Trees.{has}
 use Rattle.change_entries.specs.declared.changed.Changed.{Changed}
 use Rattle.change_entries.specs.declared.changed.Changed.the-variants.{Compressions, Refused}
 use Rattle.pushes.specs.declared.tally.Tally.{Tally}
+use Rattle.pushes.specs.Passes.{keepable}
 
 -- refusals 1 to 10, for n records
 unfoldable pub earlyRefusals : ParameterSet → List ℕ → ℕ → List Refusal
 earlyRefusals s store n = setRefusals s ++ (refusal 10 (not (has store (storeWords s) && leb n (2 ^ 32))) ∷ [])
 
--- what a push begins with: the first of these refusals, or 0; then the places and whether the store is words
-abbrev pub begun : ℕ → ℕ → Bool → Tally
-begun zero n w = record { number = 0; places = n; placed = true; words = w; made = 0 }
-begun (suc r) n w = record { number = suc r; places = 0; placed = true; words = true; made = 0 }
+-- what a push of m records begins with: the first of these refusals, or 0; then the places, whether the store is words, and whether the
+-- records are few
+abbrev pub begun : ℕ → ℕ → Bool → Bool → Tally
+begun zero n w few = record { number = 0; places = n; placed = true; words = w; distinct = true; rising = true; above = 0; few = few; kept = 0; made = 0 }
+begun (suc r) n w few = record { number = suc r; places = 0; placed = true; words = true; distinct = true; rising = true; above = 0; few = false; kept = 0; made = 0 }
 
 unfoldable pub beginOf : ParameterSet → List ℕ → ℕ → Tally
-beginOf s store n = begun (firstRefusal (earlyRefusals s store n)) (leafCount s) (allWords (primeOf s) store)
+beginOf s store m = begun (firstRefusal (earlyRefusals s store m)) (leafCount s) (allWords (primeOf s) store) (leb m keepable)
 
 -- the first refusal's number, or the count
 unfoldable pub finishOf : Tally → Changed
-finishOf t = cond (eqb (t .number) 0) (cond (t .placed) (cond (t .words) (Compressions (t .made)) (Refused 12)) (Refused 11)) (Refused (t .number))
+finishOf t =
+    cond (eqb (t .number) 0)
+    (cond (t .placed)
+    (cond (t .words) (cond (t .distinct) (Compressions (t .made)) (Refused 17)) (Refused 12))
+    (Refused 11))
+    (Refused (t .number))

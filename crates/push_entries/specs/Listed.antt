@@ -5,9 +5,10 @@ use Prim.Native.Nat.{ℕ}
 use Rattle.refusals.specs.Table.{Refusal, refusal, notWords, Reply, reply, after}
 use Rattle.parameters.specs.declared.ParameterSet.{ParameterSet}
 use Rattle.parameters.specs.ParameterSet.{primeOf, setRefusals}
+use Rattle.repeats.specs.Repeats.{repeats}
 use Rattle.trees.specs.SetTrees.{leafCount, storeWords}
 use Rattle.tree_entries.specs.Trees.{has}
-use Rattle.pushes.specs.Records.{placesBelow, usedWords}
+use Rattle.pushes.specs.Records.{placesOf, placesBelow, usedWords}
 use Rattle.pushes.specs.Listed.{listed, wholeRecords}
 use Rattle.push_entries.specs.Pushes.{fewRecords, pushing}
 
@@ -16,7 +17,8 @@ listedRefusals s store ns =
     setRefusals s
     ++ (refusal 10 (not (has store (storeWords s) && (wholeRecords ns && fewRecords (listed ns))))
     ∷ refusal 11 (not (placesBelow (leafCount s) (listed ns)))
-    ∷ notWords (primeOf s) (usedWords (s .«node_size») (listed ns) ++ store) ∷ [])
+    ∷ notWords (primeOf s) (usedWords (s .«node_size») (listed ns) ++ store)
+    ∷ refusal 17 (repeats (placesOf (listed ns))) ∷ [])
 
 unfoldable pub listedReply : ParameterSet → List ℕ → List ℕ → Reply
 listedReply s store ns = reply (listedRefusals s store ns) (pushing s store (listed ns) .made ∷ [])

@@ -8,22 +8,24 @@ use Rattle.refusals.specs.Table.{Refusal, refusal, notWords, Reply, reply, afte
 use Rattle.parameters.specs.declared.ParameterSet.{ParameterSet}
 use Rattle.parameters.specs.ParameterSet.{primeOf, setRefusals}
 use Rattle.merkle.specs.Replacement.{Counted, push}
+use Rattle.repeats.specs.Repeats.{repeats}
 use Rattle.trees.specs.SetTrees.{treeOf, leafCount, storeWords}
 use Rattle.tree_entries.specs.Trees.{has}
 use Rattle.pushes.specs.declared.record.Record.{Record}
-use Rattle.pushes.specs.Records.{changesOf, placesBelow, usedWords}
+use Rattle.pushes.specs.Records.{changesOf, placesOf, placesBelow, usedWords}
 
 -- There are at most 2^32 records: more are refused with 10 (Rules 5.4).
 abbrev pub fewRecords : List Record → Bool
 fewRecords rs = leb (length rs) (2 ^ 32)
 
--- Refusal 12 tests every record's leaf and the whole store (Rules 5.5).
+-- Refusal 12 tests every record's leaf and the whole store (Rules 5.5), and 17 that no two records have the same place (Rules 5.4).
 unfoldable pub pushRefusals : ParameterSet → List ℕ → List Record → List Refusal
 pushRefusals s store rs =
     setRefusals s
     ++ (refusal 10 (not (has store (storeWords s) && fewRecords rs))
     ∷ refusal 11 (not (placesBelow (leafCount s) rs))
-    ∷ notWords (primeOf s) (usedWords (s .«node_size») rs ++ store) ∷ [])
+    ∷ notWords (primeOf s) (usedWords (s .«node_size») rs ++ store)
+    ∷ refusal 17 (repeats (placesOf rs)) ∷ [])
 
 -- The replacements in the order of the records, under one count (Rules 5.4).
 abbrev pub pushing : ParameterSet → List ℕ → List Record → Counted

@@ -1,6 +1,6 @@
 // Where a push begins and what it answers.
 ghost use mathlib.Core.Path.{_≡_};
-ghost use mathlib.Core.Bool.{true};
+ghost use mathlib.Core.Bool.{true, false};
 ghost use mathlib.Core.List.{[], _∷_, _++_};
 ghost use Rattle.refusals.specs.Table.{firstRefusal, refusal};
 ghost use Rattle.parameters.specs.ParameterSet.{setRefusals};
@@ -12,18 +12,24 @@ use trees::sets;
 
 // The beginning of a push that one of refusals 1 to 10 stops.
 fn refused(number: u8) -> Tally
-    ensures { λ r. ⌜ r ≡ record { number = number; places = 0; placed = true; words = true; made = 0 } ⌝ }
+    ensures { λ r. ⌜ r ≡ record { number = number; places = 0; placed = true; words = true; distinct = true; rising = true; above = 0; few = false; kept = 0; made = 0 } ⌝ }
 {
     Tally {
         number: number,
         places: 0,
         placed: true,
         words: true,
+        distinct: true,
+        rising: true,
+        above: 0,
+        few: false,
+        kept: 0,
         made: 0,
     }
 }
 
-// What a push begins with: the first of refusals 1 to 10 that applies, or the places and whether the store is words.
+// What a push begins with: the first of refusals 1 to 10 that applies, or the places, whether the store is words and whether the records
+// are few.
 pub fn begin(set: ParameterSet, store: &[u64], count: usize) -> Tally
     ensures { λ r. ⌜ r ≡ beginOf set (now (store .entry)) count ⌝ }
 {
@@ -42,6 +48,11 @@ pub fn begin(set: ParameterSet, store: &[u64], count: usize) -> Tally
         places: sets::places(set) as u64,
         placed: true,
         words: parameters::all_words(store),
+        distinct: true,
+        rising: true,
+        above: 0,
+        few: count <= 128,
+        kept: 0,
         made: 0,
     }
 }
@@ -69,6 +80,9 @@ pub fn finish(tally: Tally) -> Changed
     }
     if !tally.words {
         return Changed::Refused(12);
+    }
+    if !tally.distinct {
+        return Changed::Refused(17);
     }
     Changed::Compressions(tally.made)
 }

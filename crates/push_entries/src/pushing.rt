@@ -9,14 +9,17 @@ use parameters::ParameterSet;
 use pushes::Record;
 use pushes::passes;
 
-// All records are tested, then all are written, in order; or none is.
+// All records are tested, a place that stands twice is searched, and then all are written, in order; or none is. The places that are
+// compared are kept in an array.
 pub fn push(set: ParameterSet, store: &mut [u64], records: &[Record]) -> Changed
     ensures { λ r. ⌜ (changedReply r ≡ pushReply set (now (store .entry)) (now (records .entry)))
         × (now (store .exit) ≡ pushed set (now (store .entry)) (now (records .entry))) ⌝ }
 {
     let begun = ends::begin(set, store, records.len());
-    let tested = passes::each(set, store, records, passes::TEST, begun);
-    let written = passes::each(set, store, records, passes::WRITE, tested);
+    let mut seen = [0u64; 128];
+    let tested = passes::each(set, &mut seen, records, passes::TEST, begun);
+    let searched = passes::search(set, records, tested);
+    let written = passes::each(set, store, records, passes::WRITE, searched);
     ends::finish(written)
 }
 
@@ -32,7 +35,9 @@ pub fn push_listed(set: ParameterSet, store: &mut [u64], numbers: &[u64]) -> Cha
     if begun.number != 0 {
         return Changed::Refused(begun.number);
     }
-    let tested = passes::each_listed(set, store, numbers, passes::TEST, begun);
-    let written = passes::each_listed(set, store, numbers, passes::WRITE, tested);
+    let mut seen = [0u64; 128];
+    let tested = passes::each_listed(set, &mut seen, numbers, passes::TEST, begun);
+    let searched = passes::search_listed(set, numbers, tested);
+    let written = passes::each_listed(set, store, numbers, passes::WRITE, searched);
     ends::finish(written)
 }

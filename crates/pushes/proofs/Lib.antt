@@ -1,6 +1,10 @@
 -- The laws of records and passes, and what the proofs of the walked functions cite.
 mod Records
+mod Keeping
 pub mod Listed
 pub mod Turns
+pub mod Tests
+pub mod Searching
 pub mod Lending
+pub mod Rooms
 pub mod Values

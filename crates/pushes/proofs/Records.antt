@@ -1,27 +1,27 @@
 -- What an accepted set and a tally without refusal give, and what one step keeps.
-use mathlib.Core.Path.{_≡_, refl, sym, ap, _∙_}
-use mathlib.Core.Bool.{Bool, true, false, cond, _&&_}
+use mathlib.Core.Path.{_≡_, refl, sym, ap, subst, _∙_}
+use mathlib.Core.Bool.{Bool, true, false, cond, not, _&&_}
 use mathlib.Core.List.{List}
-use Prim.Native.Nat.{ℕ, suc, _+_, _≤_, _<_}
+use Prim.Native.Nat.{ℕ, suc, _+_, _*_, _-_, _≤_, _<_}
 use native.Mathlib.Nat.{mul-le-mul-right}
 use native.Mathlib.Omega.{arith}
 use lib.Dec.{eqb, ltb}
 use lib.ListN.{length}
-use borrow.Author.Tests.{eqb-true, ltb-true}
-use Rattle.modular.specs.Arithmetic.{allWords}
+use borrow.Author.Tests.{ne-eqb, eqb-true, ltb-true}
 use Rattle.modular.proofs.Words.{left-true, right-true}
 use Rattle.refusals.specs.Table.{firstRefusal}
 use Rattle.parameters.specs.declared.ParameterSet.{ParameterSet}
-use Rattle.parameters.specs.ParameterSet.{primeOf, setRefusals}
+use Rattle.parameters.specs.ParameterSet.{setRefusals}
 use Rattle.merkle.specs.Replacement.{Counted, replaceFrom}
 use Rattle.merkle.proofs.Replacement.{replace-made}
+use Rattle.repeats.specs.Maps.{window, mapWords, note}
 use Rattle.trees.specs.Shapes.{counted}
 use Rattle.trees.specs.SetTrees.{treeOf}
 use Rattle.trees.proofs.SetTrees as tree-of
 use Rattle.pushes.specs.declared.record.Record.{Record}
 use Rattle.pushes.specs.declared.tally.Tally.{Tally}
 use Rattle.pushes.specs.Records.{leafOf}
-use Rattle.pushes.specs.Passes.{Pass, pass, Going, testOf, mayWrite, wrote, writeOf, stepOf}
+use Rattle.pushes.specs.Passes.{Pass, Going, oneMore, tested, testOf, isClear, mayWrite, wrote, writeOf, found, noteOf, stepOf, roomOf}
 
 -- a leaf is among a record's six words
 pub leaf-in-record : (s : ParameterSet) → firstRefusal (setRefusals s) ≡ 0 → s .«node_size» ≤ 6
@@ -31,73 +31,99 @@ leaf-in-record s none =
 -- ---- a write that is allowed
 
 pub may-unrefused : (t : Tally) (q : ℕ) → mayWrite t q ≡ true → t .number ≡ 0
-unfolding mayWrite
-may-unrefused t q e = eqb-true (t .number) 0 (left-true (eqb (t .number) 0) (t .placed && (t .words && ltb q (t .places))) e)
+unfolding mayWrite isClear
+may-unrefused t q e = eqb-true (t .number) 0 (left-true (eqb (t .number) 0) (t .placed && t .words) (left-true (isClear t) (t .distinct && ltb q (t .places)) e))
 
 pub may-inside : (t : Tally) (q : ℕ) → mayWrite t q ≡ true → q < t .places
 unfolding mayWrite
-may-inside t q e =
-    ltb-true q (t .places) (right-true (t .words) _ (right-true (t .placed) _ (right-true (eqb (t .number) 0) (t .placed && (t .words && ltb q (t .places))) e)))
+may-inside t q e = ltb-true q (t .places) (right-true (t .distinct) (ltb q (t .places)) (right-true (isClear t) (t .distinct && ltb q (t .places)) e))
 
 -- ---- a step
 
--- what a step keeps of a tally: the refusal's number, the places, and room for the count
+-- what a step keeps of a tally: the refusal's number, the places, and room for the places that are kept and for the count
 pub record Follows (t t′ : Tally) : Type 0 where
   pub number : t′ .number ≡ t .number
   pub places : t′ .places ≡ t .places
+  pub few : t′ .few ≡ t .few
+  pub kept : t′ .kept ≤ t .kept + 1
   pub made : t′ .made ≤ t .made + 32
 
 same : (t : Tally) → Follows t t
-same t = record { number = refl; places = refl; made = omega arith }
+same t = record { number = refl; places = refl; few = refl; kept = omega arith; made = omega arith }
 
-test-follows : (s : ParameterSet) (r : Record) (t : Tally) → Follows t (testOf s r t)
-unfolding testOf
-test-follows s r t = go (eqb (t .number) 0) refl
+test-follows : (s : ParameterSet) (r : Record) (u : Pass) → Follows (u .tally) (testOf s r u .tally)
+unfolding testOf oneMore
+test-follows s r u = go (eqb (u .tally .number) 0) refl
   where
-    next : Tally
-    next = record {
-      number = 0;
-      places = t .places;
-      placed = t .placed && ltb (r .place) (t .places);
-      words = t .words && allWords (primeOf s) (leafOf (s .«node_size») r);
-      made = t .made;
-    }
+    at-most : (few : Bool) (k : ℕ) → oneMore few k ≤ k + 1
+    at-most true k = omega arith
+    at-most false k = omega arith
 
-    go : (b : Bool) → eqb (t .number) 0 ≡ b → Follows t (cond b next t)
-    go true e = record { number = sym (eqb-true (t .number) 0 e); places = refl; made = omega arith }
-    go false e = same t
+    go : (b : Bool) → eqb (u .tally .number) 0 ≡ b → Follows (u .tally) (cond b (tested s r (u .tally) (u .buffer)) u .tally)
+    go true e = record {
+      number = sym (eqb-true (u .tally .number) 0 e);
+      places = refl;
+      few = refl;
+      kept = at-most (u .tally .few) (u .tally .kept);
+      made = omega arith;
+    }
+    go false e = same (u .tally)
 
 write-follows : (s : ParameterSet) (r : Record) (u : Pass) → (u .tally .number ≡ 0 → firstRefusal (setRefusals s) ≡ 0) → Follows (u .tally) (writeOf s r u .tally)
 unfolding writeOf
 write-follows s r u accepted = go (mayWrite (u .tally) (r .place)) refl
   where
     done : Counted
-    done = replaceFrom (treeOf s) (s .height) (r .place) (leafOf (s .«node_size») r) (counted (u .store) (u .tally .made))
+    done = replaceFrom (treeOf s) (s .height) (r .place) (leafOf (s .«node_size») r) (counted (u .buffer) (u .tally .made))
 
     go : (b : Bool) → mayWrite (u .tally) (r .place) ≡ b → Follows (u .tally) (cond b (wrote (u .tally) done) u .tally)
     go true e =
         let none = accepted (may-unrefused (u .tally) (r .place) e) in
         let counts : done .made ≡ u .tally .made + s .height =
-        replace-made (treeOf s) (tree-of.shape-regular s none) (s .height) (r .place) (leafOf (s .«node_size») r) (counted (u .store) (u .tally .made)) in
-        record { number = refl; places = refl; made = omega (arith, counts, tree-of.valid-numbers s none .low) }
+        replace-made (treeOf s) (tree-of.shape-regular s none) (s .height) (r .place) (leafOf (s .«node_size») r) (counted (u .buffer) (u .tally .made)) in
+        record { number = refl; places = refl; few = refl; kept = omega arith; made = omega (arith, counts, tree-of.valid-numbers s none .low) }
     go false e = same (u .tally)
+
+note-follows : (base q : ℕ) (u : Pass) → Follows (u .tally) (noteOf base q u .tally)
+unfolding noteOf
+note-follows base q u = go (eqb (u .tally .number) 0 && u .tally .distinct)
+  where
+    go : (b : Bool) → Follows (u .tally) (cond b (found (u .tally) (note base q (u .buffer))) u .tally)
+    go true = record { number = refl; places = refl; few = refl; kept = omega arith; made = omega arith }
+    go false = same (u .tally)
 
 step-follows : (s : ParameterSet) (phase : ℕ) (r : Record) (u : Pass) → (u .tally .number ≡ 0 → firstRefusal (setRefusals s) ≡ 0) → Follows (u .tally) (stepOf s phase r u .tally)
 unfolding stepOf
-step-follows s phase r u accepted = go (eqb phase 0)
+step-follows s phase r u accepted = go (eqb phase 0) (eqb phase 1)
   where
-    go : (b : Bool) → Follows (u .tally) (cond b (pass (testOf s r (u .tally)) (u .store)) (writeOf s r u) .tally)
-    go true = test-follows s r (u .tally)
-    go false = write-follows s r u accepted
+    go : (a b : Bool) → Follows (u .tally) (cond a (testOf s r u) (cond b (writeOf s r u) (noteOf ((phase - 2) * window) (r .place) u)) .tally)
+    go true b = test-follows s r u
+    go false true = write-follows s r u accepted
+    go false false = note-follows ((phase - 2) * window) (r .place) u
 
 -- after a step a pass goes on, with a record less before it
-pub goes-on : (s : ParameterSet) (phase : ℕ) (r : Record) (u : Pass) (store : List ℕ) (n : ℕ) → length store ≡ length (u .store)
-    → Going s (u .store) (u .tally) (suc n) → Going s store (stepOf s phase r u .tally) n
-goes-on s phase r u store n e G =
+pub goes-on : (s : ParameterSet) (phase : ℕ) (r : Record) (u : Pass) (buffer : List ℕ) (n : ℕ) → length buffer ≡ length (u .buffer)
+    → Going s phase (u .buffer) (u .tally) (suc n) → Going s phase buffer (stepOf s phase r u .tally) n
+goes-on s phase r u buffer n e G =
     let F = step-follows s phase r u (G .accepted) in
     record {
       accepted = λ z. G .accepted (sym (F .number) ∙ z);
       whole = λ z. e ∙ G .whole (sym (F .number) ∙ z);
       places = λ z. F .places ∙ G .places (sym (F .number) ∙ z);
+      keeps = λ z f. omega (arith, F .kept, G .keeps z (sym (F .few) ∙ f));
       counts = omega (arith, F .made, G .counts);
+      low = G .low;
     }
+
+-- ---- what each phase presumes of its step
+
+module _ {s : ParameterSet} {phase : ℕ} {buffer : List ℕ} {t : Tally} {n : ℕ} where
+  pub going-first : phase ≡ 0 → Going s phase buffer t n → Going s 0 buffer t n
+  going-first e G = subst (λ (m : ℕ). Going s m buffer t n) e G
+
+  pub going-write : phase ≡ 1 → Going s phase buffer t n → Going s 1 buffer t n
+  going-write e G = subst (λ (m : ℕ). Going s m buffer t n) e G
+
+  pub going-note : (phase ≡ 0 → ⊥) → (phase ≡ 1 → ⊥) → Going s phase buffer t n → t .number ≡ 0 → length buffer ≡ mapWords
+  unfolding roomOf
+  going-note a b G z = G .whole z ∙ rw (ne-eqb phase 0 a, ne-eqb phase 1 b)

@@ -17,36 +17,38 @@ use Rattle.pushes.proofs.Records.{goes-on}
 abbrev pub blank : Record
 blank = record { place = 0; words = [] }
 
--- after i records of rs, from the tally t₀ and the store xs
+-- after i records of rs, from the tally t₀ and the buffer xs
 pub record Reached (s : ParameterSet) (phase : ℕ) (rs : List Record) (t₀ : Tally) (xs : List ℕ) (i : ℕ) (t : Tally) (zs : List ℕ) : Type 0 where
   pub inside : i ≤ length rs
   pub long : length zs ≡ length xs
-  pub going : Going s zs t (length rs - i)
+  pub going : Going s phase zs t (length rs - i)
   pub left : eachOf s phase (drop i rs) (pass t zs) ≡ eachOf s phase rs (pass t₀ xs)
 
 module _ (s : ParameterSet) (phase : ℕ) (rs : List Record) (t₀ : Tally) (xs : List ℕ) where
-  pub reached-none : Going s xs t₀ (length rs) → Reached s phase rs t₀ xs 0 t₀ xs
-  reached-none G = record { inside = omega arith; long = refl; going = subst (Going s xs t₀) (sym (sub-zero (length rs))) G; left = refl }
+  pub reached-none : Going s phase xs t₀ (length rs) → Reached s phase rs t₀ xs 0 t₀ xs
+  reached-none G = record { inside = omega arith; long = refl; going = subst (Going s phase xs t₀) (sym (sub-zero (length rs))) G; left = refl }
 
   module _ (i : ℕ) (t : Tally) (zs : List ℕ) (reached : Reached s phase rs t₀ xs i t zs) where
     -- what `step` asks
-    pub step-asks : i < length rs → Going s zs t 1
+    pub step-asks : i < length rs → Going s phase zs t 1
     step-asks l = record {
       accepted = reached .going .accepted;
       whole = reached .going .whole;
       places = reached .going .places;
+      keeps = λ z f. omega (arith, l, reached .going .keeps z f);
       counts = omega (arith, l, reached .going .counts);
+      low = reached .going .low;
     }
 
     pub reached-next : i < length rs → (t′ : Tally) (zs′ : List ℕ)
-        → (t′ ≡ stepOf s phase (getD rs i blank) (pass t zs) .tally) × (zs′ ≡ stepOf s phase (getD rs i blank) (pass t zs) .store)
+        → (t′ ≡ stepOf s phase (getD rs i blank) (pass t zs) .tally) × (zs′ ≡ stepOf s phase (getD rs i blank) (pass t zs) .buffer)
         → length zs′ ≡ length zs → Reached s phase rs t₀ xs (i + 1) t′ zs′
     unfolding eachOf
     reached-next l t′ zs′ e same = record {
       inside = omega (arith, l);
       long = same ∙ reached .long;
-      going = subst (λ (u : Tally). Going s zs′ u (length rs - (i + 1))) (sym (e .0))
-          (goes-on s phase (getD rs i blank) (pass t zs) zs′ (length rs - (i + 1)) same (subst (Going s zs t) one-more (reached .going)));
+      going = subst (λ (u : Tally). Going s phase zs′ u (length rs - (i + 1))) (sym (e .0))
+          (goes-on s phase (getD rs i blank) (pass t zs) zs′ (length rs - (i + 1)) same (subst (Going s phase zs t) one-more (reached .going)));
       left = ap (eachOf s phase (drop (i + 1) rs)) whole-step
           ∙ ap (λ (k : ℕ). eachOf s phase (drop k rs) (stepOf s phase (getD rs i blank) (pass t zs))) (add-one i)
           ∙ sym (ap (λ (qs : List Record). eachOf s phase qs (pass t zs)) (drop-cons rs i blank l))
@@ -57,10 +59,10 @@ module _ (s : ParameterSet) (phase : ℕ) (rs : List Record) (t₀ : Tally) (xs 
         one-more = omega (arith, l)
 
         whole-step : pass t′ zs′ ≡ stepOf s phase (getD rs i blank) (pass t zs)
-        whole-step = λ j. record { tally = e .0 j; store = e .1 j }
+        whole-step = λ j. record { tally = e .0 j; buffer = e .1 j }
 
-    pub reached-all : length rs ≤ i → (t ≡ eachOf s phase rs (pass t₀ xs) .tally) × (zs ≡ eachOf s phase rs (pass t₀ xs) .store)
+    pub reached-all : length rs ≤ i → (t ≡ eachOf s phase rs (pass t₀ xs) .tally) × (zs ≡ eachOf s phase rs (pass t₀ xs) .buffer)
     unfolding eachOf
     reached-all l =
         let e : pass t zs ≡ eachOf s phase rs (pass t₀ xs) = sym (ap (λ (qs : List Record). eachOf s phase qs (pass t zs)) (drop-of-length-le rs l)) ∙ reached .left in
-        (ap (λ (u : Pass). u .tally) e, ap (λ (u : Pass). u .store) e)
+        (ap (λ (u : Pass). u .tally) e, ap (λ (u : Pass). u .buffer) e)

@@ -16,6 +16,11 @@ unfoldable pub changesOf : ℕ → List Record → List Change
 changesOf l [] = []
 changesOf l (r ∷ rs) = record { place = r .place; leaf = leafOf l r } ∷ changesOf l rs
 
+-- the places, in order: refusal 17 asks that none stands in this list twice (Rules 8.1)
+unfoldable pub placesOf : List Record → List ℕ
+placesOf [] = []
+placesOf (r ∷ rs) = r .place ∷ placesOf rs
+
 -- every record's place is below n: with n = k^h, what refusal 11 asks (Rules 8.1)
 unfoldable pub placesBelow : ℕ → List Record → Bool
 placesBelow n [] = true

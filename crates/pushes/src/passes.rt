@@ -1,36 +1,56 @@
-// A pass over the records of a push: of a slice of records, or of a list of numbers, seven for each.
+// Passes over the records of a push: of a slice of records, or of a list of numbers, seven for each.
 ghost use mathlib.Core.Path.{_≡_};
 ghost use Prim.Native.Nat.{_/_};
-ghost use lib.ListN.{length};
+ghost use lib.ListN.{length, replicate};
+ghost use Rattle.repeats.specs.Maps.{mapWords};
 ghost use Rattle.pushes.specs.Listed.{listed};
-ghost use Rattle.pushes.specs.Passes.{pass, Going, eachOf};
+ghost use Rattle.pushes.specs.Passes.{pass, Going, eachOf, searchOf};
 use crate::listing;
 use crate::record::Record;
 use crate::steps;
 use crate::tally::Tally;
 use parameters::ParameterSet;
 
+// The phases: what a pass does with each record. From the last on, it searches a window of places each.
 pub const TEST: u64 = 0;
 
 pub const WRITE: u64 = 1;
 
-// Over a slice of records, in order.
+pub const SEARCH: u64 = 2;
+
+// Over a slice of records, in order. The buffer is for the places that are kept, the store or a map of places.
 pub fn each(
     set: ParameterSet,
-    store: &mut [u64],
+    buffer: &mut [u64],
     records: &[Record],
     phase: u64,
     tally: Tally,
 ) -> Tally
-    requires { ⌜ Going set (now store) tally (length (now records)) ⌝ }
-    ensures { λ r. ⌜ (r ≡ eachOf set phase (now (records .entry)) (pass tally (now (store .entry))) .tally)
-        × (now (store .exit) ≡ eachOf set phase (now (records .entry)) (pass tally (now (store .entry))) .store) ⌝ }
+    requires { ⌜ Going set phase (now buffer) tally (length (now records)) ⌝ }
+    ensures { λ r. ⌜ (r ≡ eachOf set phase (now (records .entry)) (pass tally (now (buffer .entry))) .tally)
+        × (now (buffer .exit) ≡ eachOf set phase (now (records .entry)) (pass tally (now (buffer .entry))) .buffer) ⌝ }
 {
     let mut i: usize = 0;
     let mut sum = tally;
     while i < records.len() {
-        sum = steps::step(set, store, phase, sum, records[i]);
+        sum = steps::step(set, buffer, phase, sum, records[i]);
         i += 1;
+    }
+    sum
+}
+
+// The search for a place that stands twice, where the tests have left it open: a pass for each window of places, with a map of its own.
+pub fn search(set: ParameterSet, records: &[Record], tally: Tally) -> Tally
+    requires { ⌜ Going set 2 (replicate mapWords 0) tally (length (now records)) ⌝ }
+    ensures { λ r. ⌜ r ≡ searchOf set (now (records .entry)) tally ⌝ }
+{
+    let end = steps::search_end(tally);
+    let mut phase = SEARCH;
+    let mut sum = tally;
+    while phase < end {
+        let mut map = [0u64; 16384];
+        sum = each(set, &mut map, records, phase, sum);
+        phase += 1;
     }
     sum
 }
@@ -38,23 +58,40 @@ pub fn each(
 // Over the records of a list of numbers, in order.
 pub fn each_listed(
     set: ParameterSet,
-    store: &mut [u64],
+    buffer: &mut [u64],
     numbers: &[u64],
     phase: u64,
     tally: Tally,
 ) -> Tally
-    requires { ⌜ Going set (now store) tally (length (now numbers) / 7) ⌝ }
-    ensures { λ r. ⌜ (r ≡ eachOf set phase (listed (now (numbers .entry))) (pass tally (now (store .entry))) .tally)
-        × (now (store .exit) ≡ eachOf set phase (listed (now (numbers .entry))) (pass tally (now (store .entry))) .store) ⌝ }
+    requires { ⌜ Going set phase (now buffer) tally (length (now numbers) / 7) ⌝ }
+    ensures { λ r. ⌜ (r ≡ eachOf set phase (listed (now (numbers .entry))) (pass tally (now (buffer .entry))) .tally)
+        × (now (buffer .exit) ≡ eachOf set phase (listed (now (numbers .entry))) (pass tally (now (buffer .entry))) .buffer) ⌝ }
 {
     let count = numbers.len() / 7;
     let mut i: usize = 0;
     let mut sum = tally;
     while i < count {
         let item = listing::record_at(numbers, i);
-        let next = steps::step(set, store, phase, sum, item);
+        let next = steps::step(set, buffer, phase, sum, item);
         sum = next;
         i += 1;
+    }
+    sum
+}
+
+// The search in the records of a list of numbers.
+pub fn search_listed(set: ParameterSet, numbers: &[u64], tally: Tally) -> Tally
+    requires { ⌜ Going set 2 (replicate mapWords 0) tally (length (now numbers) / 7) ⌝ }
+    ensures { λ r. ⌜ r ≡ searchOf set (listed (now (numbers .entry))) tally ⌝ }
+{
+    let end = steps::search_end(tally);
+    let mut phase = SEARCH;
+    let mut sum = tally;
+    while phase < end {
+        let mut map = [0u64; 16384];
+        let next = each_listed(set, &mut map, numbers, phase, sum);
+        sum = next;
+        phase += 1;
     }
     sum
 }

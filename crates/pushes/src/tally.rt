@@ -7,6 +7,14 @@ pub struct Tally {
     // what refusals 11 and 12 test: every place so far is below k^h, and the store and every leaf so far are words
     pub placed: bool,
     pub words: bool,
+    // what refusal 17 tests: no place was found twice
+    pub distinct: bool,
+    // the places so far rise, and these are above them
+    pub rising: bool,
+    pub above: u64,
+    // there are so few records that their places are kept and compared; how many are kept so far
+    pub few: bool,
+    pub kept: usize,
     // the compressions made
     pub made: u64,
 }

@@ -44,14 +44,22 @@ module _ (p : ℕ) (refusals : List Refusal) (N : Numbered refusals) (badLength 
       let words = refusal-none 11 (not (allWords p xs)) _ (place .1) in
       record { before = front .0; lengths = lengths .0; place = place .0; words = not-false (allWords p xs) (words .0) }
 
+-- 12 before others
+pub twelve-first : (p : ℕ) (xs : List ℕ) (more : List Refusal) → allWords p xs ≡ false → firstRefusal (notWords p xs ∷ more) ≡ 12
+unfolding notWords
+twelve-first p xs more w = refusal-applies 12 (not (allWords p xs)) more (ap not w)
+
+pub twelve-passed : (p : ℕ) (xs : List ℕ) (more : List Refusal) → allWords p xs ≡ true → firstRefusal (notWords p xs ∷ more) ≡ firstRefusal more
+unfolding notWords
+twelve-passed p xs more w = refusal-passes 12 (not (allWords p xs)) more (ap not w)
+
 -- 12 alone
 pub twelve : (p : ℕ) (xs : List ℕ) → allWords p xs ≡ false → firstRefusal (notWords p xs ∷ []) ≡ 12
-unfolding notWords
-twelve p xs w = refusal-applies 12 (not (allWords p xs)) [] (ap not w)
+twelve p xs w = twelve-first p xs [] w
 
 pub no-twelve : (p : ℕ) (xs : List ℕ) → allWords p xs ≡ true → firstRefusal (notWords p xs ∷ []) ≡ 0
-unfolding notWords firstRefusal
-no-twelve p xs w = refusal-passes 12 (not (allWords p xs)) [] (ap not w)
+unfolding firstRefusal
+no-twelve p xs w = twelve-passed p xs [] w
 
 -- a list with a part that is no list of words is none
 pub left-not-words : (p : ℕ) (xs ys : List ℕ) → allWords p xs ≡ false → allWords p (xs ++ ys) ≡ false

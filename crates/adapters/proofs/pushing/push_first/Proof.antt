@@ -79,10 +79,10 @@ abbrev recordsTy : Ty
 recordsTy = sliceTy (tyRef erased imm (pointee (R .written)))
 
 abbrev arr : Ty
-arr = tyArray recordTy 16
+arr = tyArray recordTy 192
 
 abbrev arrRef : Ty
-arrRef = tyRef erased imm (tyArray (pointee (R .written)) 16)
+arrRef = tyRef erased imm (tyArray (pointee (R .written)) 192)
 
 -- the function with its locals' types written out
 abbrev fn : Fn
@@ -98,7 +98,7 @@ fn-is : fn ≡ code.function
 fn-is = refl
 
 abbrev stayed : Stays (all.ended .signature .params) (all.ended .kept)
-stayed = (stay-dropped (plain (λ _. P.the-row)) kept, (gave-slice (0 ∷ []) tt (plain (λ _. u64)), (stay-dropped (arrayOf (plain (λ _. R)) 16) kept, (stay-dropped (plain (λ _. usize)) kept, tt))))
+stayed = (stay-dropped (plain (λ _. P.the-row)) kept, (gave-slice (0 ∷ []) tt (plain (λ _. u64)), (stay-dropped (arrayOf (plain (λ _. R)) 192) kept, (stay-dropped (plain (λ _. usize)) kept, tt))))
 
 module _ {M : Type 1} (𝓤 : URA M) (H : Heap 𝓤) (A : Atoms 𝓤) (mem : Memory → SProp 𝓤) (run : Routine → Fun 𝓤) where
   abbrev Push : Contract 𝓤
@@ -110,7 +110,7 @@ Arg = ParameterSet × (RefT (List ℕ) × (List Record × (ℕ × Unit {0})))
 -- The store xs is at (b, o), borrowed for κ.
 module _ {M : Type 1} (𝓤 : URA M) (H : Heap 𝓤) (A : Atoms 𝓤) (W : Given 𝓤 H A) (at-mem : Memory → SProp 𝓤) (run : Routine → Fun 𝓤) (κ : Lft) (q : Share)
     (b o : ℕ) (γ : GName) (xs : List ℕ) (s : ParameterSet) (rs : List Record) (n : ℕ)
-    (room : Room u64 (length xs)) (is-s : Is P.the-row s (pv s ∷ [])) (len : length rs ≡ 16) (fits-n : n < 2 ^ 64) (few : n ≤ 16) where
+    (room : Room u64 (length xs)) (is-s : Is P.the-row s (pv s ∷ [])) (len : length rs ≡ 192) (fits-n : n < 2 ^ 64) (few : n ≤ 192) where
   abbrev st : RefT (List ℕ)
   st = record { ptr = (b, o); name = γ; now = xs }
 
@@ -135,9 +135,9 @@ module _ {M : Type 1} (𝓤 : URA M) (H : Heap 𝓤) (A : Atoms 𝓤) (W : Given
   abbrev OnEntry : SProp 𝓤
   OnEntry = onEntry 𝓤 H A all.signature (κ, tt) (q, tt) args vals
 
-  opened : ent 𝓤 OnEntry (⋆ 𝓤 H A (‵ (flft κ q) ∷ ‵ Store ∷ ‵ (Array R 16 .own rs (av rs ∷ [])) ∷ []))
+  opened : ent 𝓤 OnEntry (⋆ 𝓤 H A (‵ (flft κ q) ∷ ‵ Store ∷ ‵ (Array R 192 .own rs (av rs ∷ [])) ∷ []))
   opened =
-      qed W ((‵ (flft κ q) ⊛ ‵ ftrue) ∷ ‵ (owns (P.the-row ∷ MutSlice (named 0) κ u64 ∷ Array R 16 ∷ usize ∷ []) args vals) ∷ []) ∵
+      qed W ((‵ (flft κ q) ⊛ ‵ ftrue) ∷ ‵ (owns (P.the-row ∷ MutSlice (named 0) κ u64 ∷ Array R 192 ∷ usize ∷ []) args vals) ∷ []) ∵
       move ! (1 ∷ []) $ fsplit ! $ drop ! $ fsplit ! $ move ! (1 ∷ []) $ fsplit ! $ move ! (3 ∷ []) $ split ! $ keep ! (0 ∷ 4 ∷ 2 ∷ []) $ done !
 
   long : length (take n rs) ≡ n
@@ -191,9 +191,9 @@ module _ {M : Type 1} (𝓤 : URA M) (H : Heap 𝓤) (A : Atoms 𝓤) (W : Given
           assigns ! (addr ! (from ! (stop !))) (from ! (stop !)) (init ! 2 refl (tt, tt)) $
           assigns ! (agg ! (and-then ! (load ! (from ! (stop !)) (look ! 2 refl)) (and-then ! (load ! (from ! (stop !)) (look ! 10 refl)) (no-more !)))) (from ! (stop !)) (init ! 0 refl (tt, (tt, (record { fits = fits-n }, tt)))) $
           rewrite ! 0 (λ (k : ℕ). ‵ (fat fullShare recordsTy l₉ 0 (sliceVal (l₅, 0) k))) (sym long) refl $
-          move ! (20 ∷ []) $ use1 W (‵ (flft κ q) ⊛ ‵ Store ⊛ ‵ (Array R 16 .own rs (av rs ∷ []))) opened $ split ! $ move ! (1 ∷ []) $ split ! $
+          move ! (20 ∷ []) $ use1 W (‵ (flft κ q) ⊛ ‵ Store ⊛ ‵ (Array R 192 .own rs (av rs ∷ []))) opened $ split ! $ move ! (1 ∷ []) $ split ! $
           -- [the store; what the array owns; the store's token; local 9; …]: the array's cell and what it owns are its elements
-          move ! (11 ∷ 1 ∷ []) $ use2 W (‵ (Elements 16 rs l₅)) (apart 𝓤 H A W 16 rs l₅) $ rewrite ! 0 (λ (k : ℕ). ‵ (Elements k rs l₅)) (sym len) refl $
+          move ! (11 ∷ 1 ∷ []) $ use2 W (‵ (Elements 192 rs l₅)) (apart 𝓤 H A W 192 rs l₅) $ rewrite ! 0 (λ (k : ℕ). ‵ (Elements k rs l₅)) (sym len) refl $
           lft-new ! tt (λ ν. move ! (1 ∷ 0 ∷ []) $
           use2 W (later (some (λ (δ : GName). ‵ (ShrSlice (named 1) (ν ∷ []) R .own (lent l₅ δ) (lv l₅ ∷ [])) ⊛ ‵ (flent (ν ∷ []) (Elements (length rs) rs l₅)) ⊛ ‵ (flft (ν ∷ []) fullShare)))) (lends-firsts 𝓤 H A W (named 1) (ν ∷ []) n rs l₅ room-rs) $ await ! tt $ pick ! (λ δ. split ! $ move ! (1 ∷ []) $ split ! $
           -- [the way back; the call's token; the borrowed records; the store; its token; local 9; …, of local 5 its end alone]
@@ -207,7 +207,7 @@ module _ {M : Type 1} (𝓤 : URA M) (H : Heap 𝓤) (A : Atoms 𝓤) (W : Given
           land ! (from ! (stop !)) (init ! 22 refl (EL.lawful S.the-type S′.the-laws 𝓤 H A W tt .typed r _ is .0)) $
           -- ν ends, and the array is room again
           move ! (1 ∷ []) $ split ! $ move ! (1 ∷ []) $ split ! $ lft-end ! tt $ move ! (0 ∷ 6 ∷ []) $ lent-back ! tt $ rewrite ! 0 (λ (k : ℕ). ‵ (Elements k rs l₅)) len refl $
-          use1 W (‵ (froom arr l₅ 0)) (again-room 𝓤 H A W 16 rs l₅) $
+          use1 W (‵ (froom arr l₅ 0)) (again-room 𝓤 H A W 192 rs l₅) $
           -- [room for local 5; true; the store's token; the result; the store's last list; true; local 9; …]
           returns ! (look ! 23 refl) $ forget ! 6 refl $ forget ! 8 refl $ forget ! 10 refl $ forget ! 12 refl $ forget ! 15 refl $ forget ! 17 refl $ forget ! 19 refl $ forget ! 21 refl $ forget ! 23 refl $
           move ! (23 ∷ 24 ∷ []) $ free1 ! $ move ! (21 ∷ 22 ∷ []) $ free1 ! $ move ! (19 ∷ 20 ∷ []) $ free1 ! $ move ! (17 ∷ 18 ∷ []) $ free1 ! $ move ! (15 ∷ 16 ∷ []) $ free1 ! $ move ! (0 ∷ 14 ∷ []) $ free1 ! $ move ! (11 ∷ 12 ∷ []) $ free1 ! $ move ! (9 ∷ 10 ∷ []) $ free1 ! $ move ! (7 ∷ 8 ∷ []) $ free1 ! $ move ! (5 ∷ 6 ∷ []) $ free1 ! $ free0 ! $
@@ -223,18 +223,18 @@ module _ {M : Type 1} (𝓤 : URA M) (H : Heap 𝓤) (A : Atoms 𝓤) (W : Given
   all-walks : (C : Calls 𝓤 H) (Λ : Loops 𝓤 H) → FmC 𝓤 H (W .laws) C → Triple 𝓤 (C #push) (Push 𝓤 H A mem run) → Walks 𝓤 H A all.ended stayed (WpFn 𝓤 H C Λ fn) (all.clauses 𝓤 H A mem run)
   all-walks C Λ fm known = walked 𝓤 H A all.ended stayed (all.clauses 𝓤 H A mem run) (WpFn 𝓤 H C Λ fn)
       (λ κs. (LL.vals P.the-type P′.the-laws, (slice-vals, (array-vals (LL.vals T.the-type T′.the-laws), (uint-vals w64, tt)))))
-      (λ κs. (LL.tells P.the-type P′.the-laws, (mut-slice-tells (named 0) (κs .0) u64, (array-tells R (LL.vals T.the-type T′.the-laws) (LL.tells T.the-type T′.the-laws) 16, (uint-tells w64, tt)))))
-      (λ κs qs bounds a g are. needs 𝓤 (a .1 .1 .1 .0 ≤ 16) _ (λ few.
+      (λ κs. (LL.tells P.the-type P′.the-laws, (mut-slice-tells (named 0) (κs .0) u64, (array-tells R (LL.vals T.the-type T′.the-laws) (LL.tells T.the-type T′.the-laws) 192, (uint-tells w64, tt)))))
+      (λ κs qs bounds a g are. needs 𝓤 (a .1 .1 .1 .0 ≤ 192) _ (λ few.
       walk 𝓤 H A W mem run (κs .0) (qs .0) (a .1 .0 .ptr .0) (a .1 .0 .ptr .1) (a .1 .0 .name) (a .1 .0 .now) (a .0) (a .1 .1 .0) (a .1 .1 .1 .0)
       (are .1 .0 .0 .1) (are .0) (are .1 .1 .0 .1 .0 .1) (are .1 .1 .1 .0 .1) few C Λ fm known
-      (array-typed R (LL.lawful T.the-type T′.the-laws 𝓤 H A W .typed) 16 (a .1 .1 .0) _ (are .1 .1 .0) .0) (LL.lawful P.the-type P′.the-laws 𝓤 H A W .typed (a .0) _ (are .0) .0)))
+      (array-typed R (LL.lawful T.the-type T′.the-laws 𝓤 H A W .typed) 192 (a .1 .1 .0) _ (are .1 .1 .0) .0) (LL.lawful P.the-type P′.the-laws 𝓤 H A W .typed (a .0) _ (are .0) .0)))
 
 all-meets : {M : Type 1} (𝓤 : URA M) (H : Heap 𝓤) (A : Atoms 𝓤) → Given 𝓤 H A → (mem : Memory → SProp 𝓤) (run : Routine → Fun 𝓤) (𝓣 : Tables 𝓤 H) → Triple 𝓤 (𝓣 .C #push) (Push 𝓤 H A mem run)
     → Meets 𝓤 H A all.signature (WpFn 𝓤 H (𝓣 .C) (𝓣 .Λ) code.function) (all.spec 𝓤 H A mem run)
 all-meets 𝓤 H A W mem run 𝓣 known =
     subst (λ (f : Fn). Meets 𝓤 H A all.signature (WpFn 𝓤 H (𝓣 .C) (𝓣 .Λ) f) (all.spec 𝓤 H A mem run)) fn-is
     (walk-meets 𝓤 H A all.ended stayed W
-    (goes-dropped 𝓤 H A W 1 (plain (λ _. P.the-row)) kept (λ κs x f. refl), (goes-gave-slice 𝓤 H A W 1 0 tt (plain (λ _. u64)), (goes-dropped 𝓤 H A W 1 (arrayOf (plain (λ _. R)) 16) kept (λ κs x f. refl), (goes-dropped 𝓤 H A W 1 (plain (λ _. usize)) kept (λ κs x f. refl), tt))))
+    (goes-dropped 𝓤 H A W 1 (plain (λ _. P.the-row)) kept (λ κs x f. refl), (goes-gave-slice 𝓤 H A W 1 0 tt (plain (λ _. u64)), (goes-dropped 𝓤 H A W 1 (arrayOf (plain (λ _. R)) 192) kept (λ κs x f. refl), (goes-dropped 𝓤 H A W 1 (plain (λ _. usize)) kept (λ κs x f. refl), tt))))
     (all.clauses 𝓤 H A mem run) (WpFn 𝓤 H (𝓣 .C) (𝓣 .Λ) fn) (WpFn-mono 𝓤 H (W .laws) 𝓣 fn) (all-walks 𝓤 H A W mem run (𝓣 .C) (𝓣 .Λ) (fmOf 𝓤 H (W .laws) 𝓣) known))
 
 pub push-first-spec : {M : Type 1} → stated.statement M

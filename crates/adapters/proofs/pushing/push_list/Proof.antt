@@ -5,7 +5,7 @@ use native.Mathlib.Omega.{arith}
 use lib.ListN.{take}
 use borrow.Author.Needs.{needs}
 use Rattle.push_entries.specs.Pushes.{pushReply, pushed}
-use Rattle.adapters.specs.Listed.{firstSixteen}
+use Rattle.adapters.specs.Listed.{firstRecords}
 use Rattle.adapters.proofs.Listed.{Filled, filled-none, filled-next, filled-all}
 use Rattle.adapters.proofs.pushing.push_list.Statement.{statement}
 use Rattle.adapters.proofs.pushing.push_list.Tie as tie
@@ -55,7 +55,7 @@ returns c =
     let a = l .before .before .before .before .args in
     let n = l .before .record-count .result in
     let e : n ≡ l .loop .i = omega (arith, l .loop .inv .0) in
-    let g : take n (l .loop .records) ≡ firstSixteen (a .numbers .now) =
+    let g : take n (l .loop .records) ≡ firstRecords (a .numbers .now) =
     ap (λ (k : ℕ). take k (l .loop .records)) e ∙ filled-all _ _ _ (sym e ∙ l .before .record-count .ensures) (l .loop .inv .1) in
     (f .push-first .ensures .0 ∙ ap (pushReply (a .set) (a .store .now)) g, f .push-first .ensures .1 ∙ ap (pushed (a .set) (a .store .now)) g)
 

@@ -112,7 +112,7 @@ Arg = ParameterSet × (RefT (List ℕ) × (RefT (List Record) × (ℕ × (Tally 
 module _ {M : Type 1} (𝓤 : URA M) (H : Heap 𝓤) (A : Atoms 𝓤) (W : Given 𝓤 H A) (at-mem : Memory → SProp 𝓤) (run : Routine → Fun 𝓤) (κ κ′ : Lft) (q q′ : Share)
     (b o : ℕ) (γ : GName) (xs : List ℕ) (b′ o′ : ℕ) (γ′ : GName) (ys : List Record) (s : ParameterSet) (phase : ℕ) (t₀ : Tally)
     (room : Room u64 (length xs)) (room′ : Room R (length ys)) (is-s : Is P.the-row s (pv s ∷ [])) (fits-phase : phase < 2 ^ 64) (is-t₀ : Is Y.the-row t₀ (tv t₀ ∷ []))
-    (going : Going s xs t₀ (length ys)) where
+    (going : Going s phase xs t₀ (length ys)) where
   abbrev st : GName → List ℕ → RefT (List ℕ)
   st δ zs = record { ptr = (b, o); name = δ; now = zs }
 
@@ -145,7 +145,7 @@ module _ {M : Type 1} (𝓤 : URA M) (H : Heap 𝓤) (A : Atoms 𝓤) (W : Given
   Records = ShrSlice (named 1) κ′ R .own rs (rv ∷ [])
 
   exits : (t : Tally) (zs : List ℕ) → Is Y.the-row t (tv t ∷ []) → length zs ≡ length xs
-      → (t ≡ eachOf s phase ys (pass t₀ xs) .tally) × (zs ≡ eachOf s phase ys (pass t₀ xs) .store)
+      → (t ≡ eachOf s phase ys (pass t₀ xs) .tally) × (zs ≡ eachOf s phase ys (pass t₀ xs) .buffer)
       → ent 𝓤 (⋆ 𝓤 H A (‵ (Store zs xs) ∷ ‵ (flft κ q) ∷ ‵ Records ∷ ‵ (flft κ′ q′) ∷ [])) (Post (tv t))
   exits t zs is same e =
       qed W (‵ (Store zs xs) ∷ ‵ (flft κ q) ∷ ‵ Records ∷ ‵ (flft κ′ q′) ∷ []) ∵
@@ -164,7 +164,7 @@ module _ {M : Type 1} (𝓤 : URA M) (H : Heap 𝓤) (A : Atoms 𝓤) (W : Given
   abbrev to : ℕ → GName → ℕ → Tally → List ℕ → One 𝓤 H A at-mem run .Ghost
   to ν δ i t zs = (((ν ∷ [], tt), (fullShare, tt), tt, (s, (st δ zs, (phase, (t, (elem i, tt))))), (pv s ∷ [], (sv zs ∷ [], (vint w64 phase ∷ [], (tv t ∷ [], (ev i ∷ [], tt)))))), tt)
 
-  goes : (ν : ℕ) (δ : GName) (i : ℕ) (t : Tally) (zs : List ℕ) → Going s zs t 1 → Is Y.the-row t (tv t ∷ []) → Is R (elem i) (ev i ∷ [])
+  goes : (ν : ℕ) (δ : GName) (i : ℕ) (t : Tally) (zs : List ℕ) → Going s phase zs t 1 → Is Y.the-row t (tv t ∷ []) → Is R (elem i) (ev i ∷ [])
       → ent 𝓤 (sep 𝓤 (A .lft (ν ∷ []) fullShare) (sem 𝓤 H A (MutSlice (named 0) (ν ∷ []) u64 .own (st δ zs) (sv zs ∷ [])))) (One 𝓤 H A at-mem run .pre (to ν δ i t zs))
   goes ν δ i t zs asked is g =
       qed W (‵ (flft (ν ∷ []) fullShare) ∷ ‵ (MutSlice (named 0) (ν ∷ []) u64 .own (st δ zs) (sv zs ∷ [])) ∷ []) ∵
@@ -203,8 +203,8 @@ module _ {M : Type 1} (𝓤 : URA M) (H : Heap 𝓤) (A : Atoms 𝓤) (W : Given
       Left = afterBlock 𝓤 H (afterSeq 𝓤 H (Wp 𝓤 H C Λ En mirs.t-4 (atReturn 𝓤 H En Post)) (atReturn 𝓤 H En Post))
 
       -- a turn with a record
-      more : (i : ℕ) (t : Tally) (zs : List ℕ) (X : SProp 𝓤) → i < length ys → Is Y.the-row t (tv t ∷ []) → Going s zs t 1 → length zs ≡ length xs
-          → ((t′ : Tally) (zs′ : List ℕ) → (t′ ≡ stepOf s phase (elem i) (pass t zs) .tally) × (zs′ ≡ stepOf s phase (elem i) (pass t zs) .store)
+      more : (i : ℕ) (t : Tally) (zs : List ℕ) (X : SProp 𝓤) → i < length ys → Is Y.the-row t (tv t ∷ []) → Going s phase zs t 1 → length zs ≡ length xs
+          → ((t′ : Tally) (zs′ : List ℕ) → (t′ ≡ stepOf s phase (elem i) (pass t zs) .tally) × (zs′ ≡ stepOf s phase (elem i) (pass t zs) .buffer)
           → length zs′ ≡ length zs → Is Y.the-row t′ (tv t′ ∷ []) → ent 𝓤 (⋆ 𝓤 H A (At (i + 1) t′ zs′)) X)
           → ent 𝓤 (⋆ 𝓤 H A (At i t zs)) (Wp 𝓤 H C Λ En mirs.turn-1 (afterTurn 𝓤 H X Left))
       unfolding afterTurn
@@ -234,8 +234,8 @@ module _ {M : Type 1} (𝓤 : URA M) (H : Heap 𝓤) (A : Atoms 𝓤) (W : Given
           calls-at ! fm (One 𝓤 H A at-mem run) known (to ν δ i t zs) (and-then ! (load ! (from ! (stop !)) (look ! 15 refl)) (and-then ! (load ! (from ! (stop !)) (look ! 9 refl)) (and-then ! (load ! (from ! (stop !)) (look ! 16 refl)) (and-then ! (load ! (from ! (stop !)) (look ! 5 refl)) (and-then ! (load ! (from ! (stop !)) (look ! 11 refl)) (no-more !)))))) (λ w.
           use1 W (later (some (λ (r : Tally). ((‵ (flft (ν ∷ []) fullShare) ⊛ ‵ ftrue) ⊛ ‵ (Y.the-row .own r (w ∷ []))) ⊛ raw (ensured 𝓤 H A one.ended (one.clauses 𝓤 H A at-mem run) (ν ∷ [], tt) (s, (st δ zs, (phase, (t, (elem i, tt))))) tt r)))) (id⊢ 𝓤 _) $ await ! tt $ pick ! (λ r.
           -- what it ensures of its result and of the store's last list
-          split ! $ move ! (1 ∷ []) $ use1 W (some (λ (ends : Unit {0} × (List ℕ × (Unit {0} × (Unit {0} × (Unit {0} × Unit {0}))))). ‵ (lasts one.ended (ν ∷ [], tt) (s, (st δ zs, (phase, (t, (elem i, tt))))) ends) ⊛ raw (fact 𝓤 ((r ≡ stepOf s phase (elem i) (pass t zs) .tally) × (ends .1 .0 ≡ stepOf s phase (elem i) (pass t zs) .store))))) (id⊢ 𝓤 _) $ pick ! (λ ends.
-          split ! $ move ! (1 ∷ []) $ heard ! ((r ≡ stepOf s phase (elem i) (pass t zs) .tally) × (ends .1 .0 ≡ stepOf s phase (elem i) (pass t zs) .store)) (λ e. fsplit ! $ drop ! $ fsplit ! $ fsplit ! $ move ! (1 ∷ []) $ feqL ! (λ long.
+          split ! $ move ! (1 ∷ []) $ use1 W (some (λ (ends : Unit {0} × (List ℕ × (Unit {0} × (Unit {0} × (Unit {0} × Unit {0}))))). ‵ (lasts one.ended (ν ∷ [], tt) (s, (st δ zs, (phase, (t, (elem i, tt))))) ends) ⊛ raw (fact 𝓤 ((r ≡ stepOf s phase (elem i) (pass t zs) .tally) × (ends .1 .0 ≡ stepOf s phase (elem i) (pass t zs) .buffer))))) (id⊢ 𝓤 _) $ pick ! (λ ends.
+          split ! $ move ! (1 ∷ []) $ heard ! ((r ≡ stepOf s phase (elem i) (pass t zs) .tally) × (ends .1 .0 ≡ stepOf s phase (elem i) (pass t zs) .buffer)) (λ e. fsplit ! $ drop ! $ fsplit ! $ fsplit ! $ move ! (1 ∷ []) $ feqL ! (λ long.
           move ! (2 ∷ []) $ split ! $ move ! (1 ∷ []) $ peeks ! Y.the-row (Is Y.the-row) (shows 𝓤 H A Y.the-row) r (w ∷ []) (λ is.
           land ! (from ! (stop !)) (store ! 8 refl (LL.lawful Y.the-type Y′.the-laws 𝓤 H A W .typed r _ is .0)) $ rewrite ! 8 (λ (u : Val). ‵ (fat fullShare Y′.mir l₇ 0 u)) (ap only (LL.tells Y.the-type Y′.the-laws r _ is)) refl $
           -- ν ends, and the store is back at that list
@@ -323,7 +323,7 @@ module _ {M : Type 1} (𝓤 : URA M) (H : Heap 𝓤) (A : Atoms 𝓤) (W : Given
   all-walks 𝓣 fm known = walked 𝓤 H A all.ended stayed (all.clauses 𝓤 H A mem run) (WpFn 𝓤 H (𝓣 .C) (𝓣 .Λ) fn)
       (λ κs. (LL.vals P.the-type P′.the-laws, (slice-vals, (slice-vals, (uint-vals w64, (LL.vals Y.the-type Y′.the-laws, tt))))))
       (λ κs. (LL.tells P.the-type P′.the-laws, (mut-slice-tells (named 0) (κs .0) u64, (shr-slice-tells (named 1) (κs .1 .0) R, (uint-tells w64, (LL.tells Y.the-type Y′.the-laws, tt))))))
-      (λ κs qs bounds a g are. needs 𝓤 (Going (a .0) (now (a .1 .0)) (a .1 .1 .1 .1 .0) (length (now (a .1 .1 .0)))) _ (λ going.
+      (λ κs qs bounds a g are. needs 𝓤 (Going (a .0) (a .1 .1 .1 .0) (now (a .1 .0)) (a .1 .1 .1 .1 .0) (length (now (a .1 .1 .0)))) _ (λ going.
       walk 𝓤 H A W mem run (κs .0) (κs .1 .0) (qs .0) (qs .1 .0) (a .1 .0 .ptr .0) (a .1 .0 .ptr .1) (a .1 .0 .name) (a .1 .0 .now) (a .1 .1 .0 .ptr .0) (a .1 .1 .0 .ptr .1) (a .1 .1 .0 .name) (a .1 .1 .0 .now)
       (a .0) (a .1 .1 .1 .0) (a .1 .1 .1 .1 .0) (are .1 .0 .0 .1) (are .1 .1 .0 .0 .1) (are .0) (are .1 .1 .1 .0 .1) (are .1 .1 .1 .1 .0) going 𝓣 fm known
       (LL.lawful P.the-type P′.the-laws 𝓤 H A W .typed (a .0) _ (are .0) .0) (LL.lawful Y.the-type Y′.the-laws 𝓤 H A W .typed (a .1 .1 .1 .1 .0) _ (are .1 .1 .1 .1 .0) .0)))

@@ -11,16 +11,16 @@ use Rattle.pushes.proofs.passes.each_listed.Statement.{statement}
 use Rattle.pushes.proofs.passes.each_listed.Tie as tie
 
 abbrev Inv-loop : tie.InvT-loop
-Inv-loop set store₀ numbers phase count i₀ sum₀ store i sum = Reached set phase (listed numbers) sum₀ store₀ i sum store
+Inv-loop set buffer₀ numbers phase count i₀ sum₀ buffer i sum = Reached set phase (listed numbers) sum₀ buffer₀ i sum buffer
 
 abbrev μ-loop : tie.MeasureT-loop
-μ-loop set store₀ numbers phase count i₀ sum₀ store i sum = count - i
+μ-loop set buffer₀ numbers phase count i₀ sum₀ buffer i sum = count - i
 
 loop-holds : tie.Need-loop-holds Inv-loop μ-loop
 loop-holds c =
     let i = c .before .before in
     let a = i .args in
-    reached-none _ _ _ _ _ (subst (Going (a .set) (a .store .now) (a .tally)) (sym (listed-count (a .numbers .now))) (i .pre))
+    reached-none _ _ _ _ _ (subst (Going (a .set) (a .phase) (a .buffer .now) (a .tally)) (sym (listed-count (a .numbers .now))) (i .pre))
 
 record-at-requires : tie.Need-record-at-requires Inv-loop μ-loop
 record-at-requires c κs = omega (arith, c .loop-test .taken)

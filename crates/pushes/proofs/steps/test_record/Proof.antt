@@ -1,34 +1,63 @@
-use mathlib.Core.Path.{ap, _∙_}
+use mathlib.Core.Path.{refl, ap, _∙_}
 use mathlib.Core.Bool.{Bool, _&&_}
+use native.Mathlib.Omega.{arith}
 use borrow.Author.Needs.{needs}
-use Rattle.pushes.specs.declared.tally.Tally.{Tally}
 use borrow.Author.Tests.{eq-eqb, ne-eqb}
-use Rattle.pushes.specs.Passes.{testOf}
+use Rattle.pushes.specs.declared.tally.Tally.{Tally}
+use Rattle.pushes.specs.Passes.{freshOf, testOf, roomOf}
 use Rattle.pushes.proofs.Records.{leaf-in-record}
 use Rattle.pushes.proofs.steps.test_record.Statement.{statement}
 use Rattle.pushes.proofs.steps.test_record.Tie as tie
 
 returns : tie.Need-returns
 unfolding testOf
-returns c = simp (ne-eqb _ _ (c .if1 .taken))
+returns c = rw (ne-eqb _ _ (c .if1 .taken)) (refl, refl)
 
-both-requires : tie.Need-both-requires
-both-requires c κs = search needs
+keep-place-requires : tie.Need-keep-place-requires
+unfolding roomOf
+keep-place-requires c κs few =
+    let e = c .before .before .before .before .before in
+    let i = e .before .before .before in
+    omega (arith, i .pre .keeps refl few, i .pre .whole (e .if1 .left))
 
 leaf-is-words-requires : tie.Need-leaf-is-words-requires
-leaf-is-words-requires c κs = leaf-in-record _ (c .before .before .before .before .before .before .pre (c .before .before .before .before .if1 .left))
+leaf-is-words-requires c κs =
+    let e = c .before .before .before .before .before .before .before .before .before .before .before in
+    leaf-in-record _ (e .before .before .before .pre .accepted (e .if1 .left))
 
-both-requires-2 : tie.Need-both-requires-2
-both-requires-2 c κs = search needs
+one-more-requires : tie.Need-one-more-requires
+one-more-requires c κs few =
+    let e = c .before .before .before .before .before .before .before .before .before .before .before .before .before .before .before in
+    omega (arith, e .before .before .before .pre .keeps refl few)
 
 returns-2 : tie.Need-returns-2
 unfolding testOf
 returns-2 c =
-    let t : Tally = c .before .before .before .before .before .before .before .before .args .tally in
-    let words = c .both2 .ensures ∙ ap (λ (w : Bool). t .words && w) (c .before .leaf-is-words .ensures) in
-    rw (eq-eqb (t .number) 0 (c .before .before .before .before .before .before .if1 .left))
-    (λ i. record { number = 0; places = t .places; placed = c .before .before .both .ensures i; words = words i; made = t .made })
+    let words = c .before .before .before .before in
+    let kept = words .before .before .before .before .before .before in
+    let rising = kept .before .before in
+    let e = rising .before .before .before .before in
+    let i = e .before .before .before in
+    let t : Tally = i .args .tally in
+    let fresh = kept .keep-place .ensures .0 ∙ ap (λ (b : Bool). freshOf (t .few) (t .kept) b (i .args .item .place) (i .args .seen .now)) (rising .both .ensures) in
+    rw (eq-eqb (t .number) 0 (e .if1 .left)) (
+      λ j. record {
+        number = 0;
+        places = t .places;
+        placed = words .before .both2 .ensures j;
+        words = (c .before .before .before .both3 .ensures ∙ ap (λ (b : Bool). t .words && b) (words .leaf-is-words .ensures)) j;
+        distinct = (c .before .before .both4 .ensures ∙ ap (λ (b : Bool). t .distinct && b) fresh) j;
+        rising = rising .both .ensures j;
+        above = c .before .above .ensures j;
+        few = t .few;
+        kept = c .one-more .ensures j;
+        made = t .made;
+      },
+      kept .keep-place .ensures .1,
+    )
 
 pub test-record-spec : {M : Type 1} → statement M
 test-record-spec =
-    tie.close (tie.spec returns both-requires leaf-is-words-requires both-requires-2 returns-2)
+    tie.close
+    (tie.spec returns (λ c κs. search needs) keep-place-requires (λ c κs. search needs) leaf-is-words-requires (λ c κs. search needs) (λ c κs. search needs)
+    (λ c κs. search needs) one-more-requires (λ c. search needs) returns-2)
