@@ -26,8 +26,8 @@
  * to its first t - l, and it is permuted. The leaf is the first l words of the state at the end.
  *
  * WHAT IS RETURNED. 0 where the work is done, else the number of a refusal: of those that apply the first in the list of names below, where
- * 16 stands after 12 and before 13. After a refusal every buffer holds what it held, and so do *result, *made, *level and the sizes that
- * opening_tree_sizes writes.
+ * 16 and 17 stand after 12 and before 13. After a refusal every buffer holds what it held, and so do *result, *made, *level and the sizes
+ * that opening_tree_sizes writes.
  * opening_tree_verify returns 0 for an opening that is accepted and for nothing else; for one that is rejected it returns 255, which is no
  * refusal's number. In a function's comment the brackets after a number say what is tested: for 10 the counts of these buffers, for 12 that
  * these numbers are words. The counts of leaves, store and siblings that fit are those of opening_tree_sizes.
@@ -41,7 +41,8 @@
  * none writes what another reads or writes.
  *
  * MEMORY. No function allocates. As compiled today a call takes at most 13 kB of stack, but opening_tree_storeless_root takes more with
- * each level of the tree, at most 40 kB. Of the C library memcpy and memset are needed, and nothing else.
+ * each level of the tree, at most 40 kB, and a push up to 128 KiB more for a map of places. Of the C library memcpy and memset are needed,
+ * and nothing else.
  */
 #ifndef OPENING_TREE_H
 #define OPENING_TREE_H
@@ -69,6 +70,7 @@ extern "C" {
 #define OPENING_TREE_BAD_PLACE 11          /* a place is not below k^h, or a level not below h */
 #define OPENING_TREE_NOT_A_WORD 12         /* a number handed in is not a word */
 #define OPENING_TREE_FILE_TOO_LONG 16      /* the contents of a file are over 4294967295 bytes */
+#define OPENING_TREE_REPEATED_PLACE 17     /* two records of a push have the same place */
 #define OPENING_TREE_NO_INVERSE 13         /* the inverse of 0 */
 #define OPENING_TREE_NOT_ACCEPTED 14       /* extraction: an opening is not accepted */
 #define OPENING_TREE_EQUAL_LEAVES 15       /* extraction: the leaves are equal */
@@ -168,14 +170,15 @@ typedef struct opening_tree_record {
 } opening_tree_record;
 
 /* opening_tree_push, below, of records that are handed in as numbers, seven for each: its place, then its words. The count is that of the
-   numbers. Writes and refuses as that does; 10 also where the count is no multiple of seven. */
+   numbers. Writes and refuses as that does, with 17 too where a place stands twice; 10 also where the count is no multiple of seven. */
 uint8_t opening_tree_push_numbers(OPENING_TREE_SET, uint64_t *store, size_t store_count, const uint64_t *numbers,
                                   size_t numbers_count, uint64_t *made);
 
 /* Replacements in order, all or none; the count is that of the records. Writes for each record its leaf and the h nodes above it to the
-   store, and the number of all compressions, h for each record, to *made. Refusals, in this order: 1 to 9, 10 (store; over 2^32 records),
-   11 (the place of any record is not below k^h), 12 (the leaf of any record, and the whole store). This one function is C, over the proved
-   one above. */
+   store, and the number of all compressions, h for each record, to *made. A list that has a place twice is refused, with equal leaves too,
+   and nothing is written; equal leaves at different places are taken. Refusals, in this order: 1 to 9, 10 (store; over 2^32 records),
+   11 (the place of any record is not below k^h), 12 (the leaf of any record, and the whole store), 17 (two records have the same place).
+   This one function is C, over the proved one above. */
 static inline uint8_t opening_tree_push(OPENING_TREE_SET, uint64_t *store, size_t store_count, const opening_tree_record *records,
                                         size_t records_count, uint64_t *made) {
     /* Of over 2^32 records none is read, however many they are; and seven times this count is below 2^64. */

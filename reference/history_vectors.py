@@ -1,8 +1,8 @@
 """Prints what the program `history_vectors` must print, worked out by this reference.
 
 The program's input is what history_cases.py makes. A tree is a line, a line for
-each of its calls, in order on the one store, and a line for each place at the
-end:
+each of its calls, in order on the one store, and a line for each place that is
+asked for at the end:
 
     T L H F R build A
     replace Q compressions N DIGEST

@@ -267,6 +267,11 @@ def record_leaf(s: ParameterSet, record: Record) -> Words:
     return words[: s.node_size]
 
 
+def repeats_place(records: list[Record]) -> bool:
+    """Whether two records have the same place, so that there are fewer places (Rules 5.4)."""
+    return len({place for place, _ in records}) < len(records)
+
+
 def push(s: ParameterSet, store: Words, records: list[Record]) -> Answer:
     """A push (Rules 5.4): ("count", n)."""
     number = refusal_of_set(s)
@@ -280,6 +285,8 @@ def push(s: ParameterSet, store: Words, records: list[Record]) -> Answer:
         return ("refused", 12)
     if not all_words(store):
         return ("refused", 12)
+    if repeats_place(records):
+        return ("refused", 17)
     count = 0
     for record in records:
         count = write_path(s, store, record[0], record_leaf(s, record), count)
@@ -374,6 +381,8 @@ def book_push(s: ParameterSet, book: list[Words], records: list[Record]) -> Answ
         return ("refused", 11)
     if not all(all_words(record_leaf(s, record)) for record in records):
         return ("refused", 12)
+    if repeats_place(records):
+        return ("refused", 17)
     for record in records:
         book[record[0]] = list(record_leaf(s, record))
     return ("count", s.height * len(records))

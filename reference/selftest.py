@@ -7,6 +7,7 @@ group, one more for each check that failed, and the totals last.
 import random
 import sys
 from collections.abc import Callable, Iterator
+from itertools import combinations, product
 
 import cases
 import field
@@ -17,6 +18,8 @@ import merkle
 import poseidon2
 import program
 import published
+import push_cases
+import push_vectors
 import tree_cases
 import tree_vectors
 from field import P
@@ -346,12 +349,12 @@ def vectors_cases() -> Iterator[Check]:
         state = case.state.numbers(cases.STATE_PLACES)
         kind, answer = poseidon2.permute(case.handed(), state)
         yield f"permute {case}", 0 if kind == "words" else answer, case.refusal
-    yield fitting(cases.SECTIONS)
+    yield fitting(cases.lines(cases.SECTIONS))
 
 
-def fitting(sections: list) -> Check:
+def fitting(lines: list[str]) -> Check:
     """A program's buffer has 65,536 bytes."""
-    size = sum(len(line) + 1 for line in cases.lines(sections))
+    size = sum(len(line) + 1 for line in lines)
     return "bytes of input", size <= 60000, True
 
 
@@ -366,7 +369,7 @@ def tree_vectors_cases() -> Iterator[Check]:
             kind, number = merkle.sizes(case.case.handed())
             refused = number if kind == "refused" else 0
             yield f"sizes {case}", refused, case.refusals[0] if case.refusals[0] < 10 else 0
-    yield fitting(tree_cases.SECTIONS)
+    yield fitting(cases.lines(tree_cases.SECTIONS))
 
 
 def replacements() -> Iterator[Check]:
@@ -485,15 +488,47 @@ def leaf_book() -> Iterator[Check]:
 
 
 def histories() -> Iterator[Check]:
-    """The cases of history_vectors: the refusals, the book's answers, the store at the end."""
+    """The cases of history_vectors: the refusals, the book's answers, the store at the end; and that
+    all is as it would be without the calls that are refused. All of the input fits."""
     for n, one in enumerate(history_cases.histories()):
         s, leaves, (_, store) = history_vectors.begun(one)
-        book = merkle.open_book(s, leaves)
+        book, other = merkle.open_book(s, leaves), list(store)
         for i, call in enumerate(one.calls):
+            before = list(store)
             kind, number = history_vectors.called(s, call, store)
             yield f"{n}, refusal of call {i}", number if kind == "refused" else 0, call.refusal
             yield f"{n}, call {i}", history_vectors.booked(s, call, book), (kind, number)
+            if call.refusal:
+                yield f"{n}, call {i} keeps", store, before
+            else:
+                answer = history_vectors.called(s, call, other)
+                yield f"{n}, call {i}, none refused", answer, (kind, number)
         yield f"{n}, store", store, built(s, merkle.book_leaves(book))
+        yield f"{n}, store, none refused", other, store
+    yield fitting(history_cases.lines())
+
+
+def pushes() -> Iterator[Check]:
+    """The cases of push_vectors: the refusals, of a push where the store is small or spoilt, and else
+    the book's. In a small tree a store that is kept whole becomes the same, and keeps the same."""
+    for n, one in enumerate(push_cases.all_pushes()):
+        s, sparse = one.tree.case.handed(), push_vectors.begun(one)
+        small, spoilt = one.tree.store <= 1024, one.written.runs != []
+        store, book = sparse[:] if small else [], {}
+        for i, push in enumerate(one.pushes):
+            records = push.listed(push_cases.RECORD_PLACES)
+            wanted = ("refused", push.refusal)
+            if push.refusal == 0:
+                wanted = ("count", s.height * len(records))
+            if small or spoilt:
+                yield f"{n}, push {i}", merkle.push(s, sparse, records), wanted
+            if not spoilt:
+                yield f"{n}, push {i} of the book", merkle.book_push(s, book, records), wanted
+            if small:
+                before = list(store)
+                yield f"{n}, push {i} of all", merkle.push(s, store, records), wanted
+                yield f"{n}, store after {i}", store, sparse[:]
+                yield f"{n}, {i} keeps", push.refusal == 0 or store == before, True
 
 
 def seeded_call(
@@ -581,6 +616,62 @@ def tree_refusals() -> Iterator[Check]:
     yield "push changed nothing", buffer, store
 
 
+def repeated_places() -> Iterator[Check]:
+    """17 for exactly the lists that have two records of one place; after all other refusals of a push
+    and of the book; every list stays as it was."""
+    s = accepted(4, 2, 2, 2, 0, [1, 2, 3, 4], T_CONSTANTS)
+    store = built(s, [1, 2, 3, 4, 5, 6, 7, 8])
+    book = merkle.open_book(s, store[:8])
+    leaf, bad = [5] * 6, [5, P, 5, 5, 5, 5]
+
+    for count in range(5):
+        for places in product(range(4), repeat=count):
+            twice = any(a == b for a, b in combinations(places, 2))
+            wanted = ("refused", 17) if twice else ("count", 2 * count)
+            records = [(place, leaf) for place in places]
+            after, pages = list(store), [list(page) for page in book]
+            yield f"push to {places}", merkle.push(s, after, records), wanted
+            yield f"book, {places}", merkle.book_push(s, pages, records), wanted
+            leaves = [[5, 5] if n in places and not twice else book[n] for n in range(4)]
+            yield f"leaves after {places}", after, built(s, merkle.book_leaves(leaves))
+            yield f"pages after {places}", pages, leaves
+
+    for others in ([], [(1, leaf)], [(1, leaf), (2, leaf), (0, leaf)]):
+        one, two = (3, leaf), (3, [6] * 6)
+        for number, records in [
+            (17, [one, *others, one]),
+            (17, [one, *others, two]),
+            (17, [*others, one, two]),
+            (17, [two, one, *others]),
+            (12, [one, *others, (3, bad)]),
+            (12, [(3, bad), *others, (3, bad)]),
+            (12, [one, one, *others, (0, bad)]),
+            (12, [(0, bad), *others, one, one]),
+            (11, [one, one, *others, (4, leaf)]),
+            (11, [(4, leaf), *others, (4, leaf)]),
+            (11, [(4, bad), *others, one, one]),
+            (11, [one, (4, leaf), *others, (3, bad)]),
+        ]:
+            name, after, pages = f"{number} for {records}", list(store), list(book)
+            yield name, merkle.push(s, after, records), ("refused", number)
+            yield name + " of the book", merkle.book_push(s, pages, records), ("refused", number)
+            yield name + " keeps", (after, pages), (store, book)
+            spoilt = [P, *store[1:]]
+            refused = ("refused", min(number, 12))
+            yield name + ", store", merkle.push(s, spoilt, records), refused
+            yield name + ", long store", merkle.push(s, [*store, 0], records), ("refused", 10)
+            high = accepted(4, 2, 32, 2, 0, [1, 2, 3, 4], T_CONSTANTS)
+            high.height = 33
+            yield name + ", set", merkle.push(high, store, records), ("refused", 5)
+
+    low = accepted(4, 2, 0, 2, 0, [1, 2, 3, 4], T_CONSTANTS)
+    store = [1, 2]
+    yield "one place, twice", merkle.push(low, store, [(0, leaf), (0, leaf)]), ("refused", 17)
+    yield "one place, keeps", store, [1, 2]
+    yield "one place, once", merkle.push(low, store, [(0, leaf)]), ("count", 0)
+    yield "one place, written", store, [5, 5]
+
+
 def program_refusals() -> Iterator[Check]:
     """The root program's refusals, the byte count first."""
     whole = program_input(T_NUMBERS + [1, 0, 0, 0])
@@ -627,7 +718,9 @@ GROUPS = [
     ("trees", trees),
     ("leaf book", leaf_book),
     ("histories", histories),
+    ("pushes", pushes),
     ("tree refusals", tree_refusals),
+    ("repeated places", repeated_places),
     ("program refusals", program_refusals),
     *file_checks.GROUPS,
 ]

@@ -13,9 +13,11 @@ static const uint64_t diagonal[4] = {1, 2, 3, 4};
 static const uint64_t constants[8] = {0, 0, 0, 0, P - 505316, P - 410806, P - 127289, P - 94519};
 static const uint64_t singular[4] = {P - 4, P - 4, P - 4, P - 4};
 
-/* Small numbers, to be worked with by hand, and not safe; and the same with the height 0. */
+/* Small numbers, to be worked with by hand, and not safe; and the same with the heights 0, 3 and 8. */
 #define T 4, 2, 1, 2, 0, diagonal, 4, constants, 8
 #define LOW 4, 2, 0, 2, 0, diagonal, 4, constants, 8
+#define HIGH 4, 2, 3, 2, 0, diagonal, 4, constants, 8
+#define HIGHER 4, 2, 8, 2, 0, diagonal, 4, constants, 8
 
 /* The set that a function here was handed as OPENING_TREE_SET. */
 #define HANDED width, node_size, height, full_rounds, partial_rounds, diagonal, diagonal_count, constants, constants_count
@@ -182,19 +184,86 @@ static void changes(void) {
 static void records(void) {
     const uint64_t built[6] = {1, 0, 0, 0, 6, 4};
     const opening_tree_record last = {0, {1, 0, P, P, P, P}}, other = {1, {0, 0, P, P, P, P}}, out = {2, {0, 0, 0, 0, 0, 0}};
-    const opening_tree_record seven[7] = {other, {0, {2, 3, 0, 0, 0, 0}}, other, {0, {4, 5, 0, 0, 0, 0}}, other, other, last};
-    const opening_tree_record bad[2] = {last, out};
+    const opening_tree_record two[2] = {other, last}, bad[2] = {last, out};
     const size_t most = UINT64_C(1) << 32, wraps = SIZE_MAX / 7 + 1;
     uint64_t store[6] = {0}, made = 99;
     expect("a record is seven numbers", sizeof last == 7 * sizeof(uint64_t) && 7 * wraps < 7);
     expect("the second place", opening_tree_push(T, store, 6, bad, 2, &made) == 11 && made == 99 && store[0] == 0);
-    expect("over 2^32 records", opening_tree_push(T, store, 6, seven, most + 1, &made) == 10 && made == 99 && store[0] == 0);
-    expect("more than fit", opening_tree_push(T, store, 6, seven, wraps, &made) == 10 && made == 99 && store[0] == 0);
-    expect("the most", opening_tree_push(T, store, 6, seven, SIZE_MAX, &made) == 10 && made == 99 && store[0] == 0);
-    expect("a set that is refused", opening_tree_push(4, 2, 1, 2, 0, singular, 4, constants, 8, store, 6, seven, SIZE_MAX, &made) == 9);
-    expect("seven records", opening_tree_push(T, store, 6, seven, 7, &made) == 0 && made == 7 && same(store, built, 6));
+    expect("over 2^32 records", opening_tree_push(T, store, 6, two, most + 1, &made) == 10 && made == 99 && store[0] == 0);
+    expect("more than fit", opening_tree_push(T, store, 6, two, wraps, &made) == 10 && made == 99 && store[0] == 0);
+    expect("the most", opening_tree_push(T, store, 6, two, SIZE_MAX, &made) == 10 && made == 99 && store[0] == 0);
+    expect("a set that is refused", opening_tree_push(4, 2, 1, 2, 0, singular, 4, constants, 8, store, 6, two, SIZE_MAX, &made) == 9);
+    expect("two records", opening_tree_push(T, store, 6, two, 2, &made) == 0 && made == 2 && same(store, built, 6));
     memset(store, 0, sizeof store);
-    expect("the first", opening_tree_push(T, store, 6, seven, 1, &made) == 0 && made == 1 && !same(store, built, 6));
+    expect("the first", opening_tree_push(T, store, 6, two, 1, &made) == 0 && made == 1 && !same(store, built, 6));
+}
+
+/* Seven records for eight places, in no order and with equal leaves among them: the store is that of the leaves that they leave. */
+static void seven_records(void) {
+    const uint64_t places[7] = {5, 0, 7, 2, 6, 1, 3};
+    uint64_t leaves[16] = {0}, store[30] = {0}, built[30] = {0}, made = 99;
+    opening_tree_record seven[7];
+    expect("build", opening_tree_build(HIGH, leaves, 16, store, 30) == 0);
+    for (uint64_t i = 0; i < 7; i++) {
+        const opening_tree_record record = {places[i], {i / 2 + 1, P - 1, P, P, P, P}};
+        seven[i] = record;
+        memcpy(leaves + 2 * places[i], record.words, 2 * sizeof *leaves);
+    }
+    expect("build, of what they leave", opening_tree_build(HIGH, leaves, 16, built, 30) == 0 && !same(store, built, 30));
+    expect("seven records", opening_tree_push(HIGH, store, 30, seven, 7, &made) == 0 && made == 21 && same(store, built, 30));
+}
+
+/* Refused with this number by both functions, and the store and the count hold what they held. */
+static int refuses_push(uint8_t number, uint64_t *store, const opening_tree_record *list, size_t count) {
+    static uint64_t kept[1022];
+    uint64_t made = 99;
+    memcpy(kept, store, sizeof kept);
+    if (opening_tree_push(HIGHER, store, 1022, list, count, &made) != number || !same(store, kept, 1022)) return 0;
+    if (opening_tree_push_numbers(HIGHER, store, 1022, &list->place, 7 * count, &made) != number) return 0;
+    return made == 99 && same(store, kept, 1022);
+}
+
+/* A list of records at different places, of which the last gets another's; 11 and 12 come before 17. */
+static void repeats_of(uint64_t *store, opening_tree_record *list, size_t count) {
+    const opening_tree_record first = list[0], before = list[count - 2], last = list[count - 1];
+    const uint64_t root = store[1021];
+    list[count - 1].place = first.place;
+    expect("a place twice: first and last", refuses_push(OPENING_TREE_REPEATED_PLACE, store, list, count));
+    list[0].words[1] = P;
+    expect("a place twice, and a leaf with p", refuses_push(12, store, list, count));
+    list[0].place = list[count - 1].place = 256;
+    expect("place 256 twice, and a leaf with p", refuses_push(11, store, list, count));
+    list[0] = first;
+    list[count - 1].place = first.place;
+    store[1021] = P;
+    expect("a place twice, and p in the store", refuses_push(12, store, list, count));
+    store[1021] = root;
+    list[count - 1].place = before.place;
+    expect("a place twice: the last two", refuses_push(17, store, list, count));
+    list[count - 1] = before;
+    expect("a record twice", refuses_push(17, store, list, count));
+    list[count - 1] = last;
+}
+
+/* Lists of few records and of many, whose places rise, jump or fall: refused where one is made another's, and else taken. */
+static void repeats(void) {
+    static const size_t counts[6] = {2, 3, 128, 129, 130, 256};
+    static const uint64_t steps[3] = {1, 37, 255};
+    static uint64_t leaves[512], store[1022], built[1022];
+    static opening_tree_record list[256];
+    expect("build", opening_tree_build(HIGHER, leaves, 512, store, 1022) == 0);
+    for (int i = 0; i < 18; i++) {
+        const size_t count = counts[i % 6];
+        uint64_t made = 99;
+        for (uint64_t j = 0; j < count; j++) {
+            const opening_tree_record record = {steps[i / 6] * j % 256, {j / 2, (uint64_t)i, P, P, P, P}};
+            list[j] = record;
+        }
+        repeats_of(store, list, count);
+        for (size_t j = 0; j < count; j++) memcpy(leaves + 2 * list[j].place, list[j].words, 2 * sizeof *leaves);
+        expect("no place twice", opening_tree_push(HIGHER, store, 1022, list, count, &made) == 0 && made == 8 * count);
+        expect("its leaves", opening_tree_build(HIGHER, leaves, 512, built, 1022) == 0 && same(store, built, 1022));
+    }
 }
 
 /* A set that was made for two leaves which are both accepted at place 3 under one root, and so is not safe: their rows at level 1 collide.
@@ -373,6 +442,8 @@ int main(void) {
     trees();
     changes();
     records();
+    seven_records();
+    repeats();
     extraction();
     collisions();
     files();

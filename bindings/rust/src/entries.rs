@@ -255,14 +255,30 @@ pub fn replace(set: &SetNumbers, store: &mut [u64], place: u64, leaf: &[u64]) ->
     })
 }
 
-/// Replacements in order, all or none. Answers the compressions made. Refusals 1 to 11, and 12 for the leaves of the records and the whole
-/// store.
+/// Replacements in order, all or none. Answers the compressions made. Refusals 1 to 11, 12 for the leaves of the records and the whole
+/// store, and 17.
+///
+/// A list that has a place twice is refused with 17, whatever the leaves, and nothing is written. Equal leaves may go to different places.
+///
+/// ```
+/// use opening_tree::entries;
+/// use opening_tree::{published, Record, Refusal};
+///
+/// let set = published::width_8(4, 1)?; // two leaves of four words
+/// let mut store = [0; 12];
+/// let [first, second] = [0, 1].map(|place| Record { place, words: [7; 6] });
+/// assert_eq!(entries::push(&set.numbers(), &mut store, &[first, second, first]), Err(Refusal::RepeatedPlace));
+/// assert_eq!(store, [0; 12]);
+/// assert_eq!(entries::push(&set.numbers(), &mut store, &[second, first]), Ok(2));
+/// assert_eq!(store[..8], [7; 8]);
+/// # Ok::<(), Refusal>(())
+/// ```
 pub fn push(set: &SetNumbers, store: &mut [u64], records: &[Record]) -> Result<u64, Refusal> {
     push_numbers(set, store, record_numbers(records))
 }
 
 /// [`push`] of records that are handed in as a flat list, seven numbers each: a place, then the words of a [`Record`].
-/// Refusal 10 also for a list that is not a multiple of seven.
+/// Refusal 10 also for a list that is not a multiple of seven. A list that has a place twice is refused here too, and nothing is written.
 ///
 /// [`record_numbers`] makes the flat list of [`Record`]s.
 pub fn push_numbers(set: &SetNumbers, store: &mut [u64], numbers: &[u64]) -> Result<u64, Refusal> {
@@ -357,7 +373,7 @@ mod tests {
 
     #[test]
     fn numbers_without_a_meaning_are_taken_for_nothing() {
-        for number in 17..=u8::MAX {
+        for number in 18..=u8::MAX {
             assert!(std::panic::catch_unwind(|| done(number)).is_err(), "{number}");
             if number != REJECTED {
                 assert!(std::panic::catch_unwind(|| verdict(number)).is_err(), "{number}");
@@ -398,6 +414,7 @@ mod tests {
                 sys::opening_tree_seventh_root(P, number),
                 call!(opening_tree_replace, set, store.as_mut_ptr(), 6, 2, [1, 1].as_ptr(), 2, number),
                 call!(opening_tree_push_numbers, set, store.as_mut_ptr(), 6, [2, 0, 0, 0, 0, 0, 0].as_ptr(), 7, number),
+                call!(opening_tree_push_numbers, set, store.as_mut_ptr(), 6, [1; 14].as_ptr(), 14, number),
                 call!(
                     opening_tree_extract,
                     set,
@@ -420,7 +437,7 @@ mod tests {
                 ),
             ]
         };
-        assert_eq!(returned, [12, 12, 12, 12, 13, 12, 11, 11, 14]);
+        assert_eq!(returned, [12, 12, 12, 12, 13, 12, 11, 11, 17, 14]);
         assert_eq!(kept, KEPT);
     }
 

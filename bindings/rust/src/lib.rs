@@ -15,8 +15,9 @@
 //! ```
 //!
 //! Any numbers may be handed in. A call is done, or refused by a [`Refusal`]; after a refusal every buffer and
-//! every tree is as it was. A verification is `Ok` for an opening that is accepted and for nothing else: one that is rejected or refused
-//! is an error, [`NotAccepted`].
+//! every tree is as it was. So a push of [`Record`]s is made whole or not at all, and one that has a place twice is refused. A
+//! verification is `Ok` for an opening that is accepted and for nothing else: one that is rejected or refused is an error,
+//! [`NotAccepted`].
 //!
 //! The types here are for numbers that are kept together; [`entries`] has the library's twenty-one functions over plain slices,
 //! for buffers of one's own. [`field`] is the arithmetic.

@@ -1,6 +1,7 @@
 //! Replacement records.
 
-/// One replacement of a push: a place, and room for a leaf of up to six words. The first l are read, the others are not.
+/// One replacement of a push: a place, and room for a leaf of up to six words. The first l are read, the others are not. The records of
+/// a push have different places.
 #[derive(Clone, Copy, Debug, PartialEq, Eq, Hash)]
 #[repr(C)]
 pub struct Record {

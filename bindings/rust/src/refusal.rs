@@ -4,7 +4,7 @@ use std::error::Error;
 use std::fmt;
 
 /// Why a call was refused. Of the refusals that apply, the first one tested is given. They are tested in the order of their numbers,
-/// except that 16 comes after 12 and before 13.
+/// except that 16 and 17 come after 12 and before 13.
 ///
 /// ```
 /// use opening_tree::{field, Refusal};
@@ -49,11 +49,13 @@ pub enum Refusal {
     EqualLeaves = 15,
     /// The contents of a file are more than 4294967295 bytes.
     FileTooLong = 16,
+    /// Two records of a push have the same place.
+    RepeatedPlace = 17,
 }
 
 impl Refusal {
-    /// Every refusal, by its number.
-    pub const ALL: [Refusal; 16] = [
+    /// Every refusal, in the order in which they are tested.
+    pub const ALL: [Refusal; 17] = [
         Refusal::BadWidth,
         Refusal::BadNodeSize,
         Refusal::BadFullRounds,
@@ -66,13 +68,14 @@ impl Refusal {
         Refusal::BadLength,
         Refusal::BadPlace,
         Refusal::NotAWord,
+        Refusal::FileTooLong,
+        Refusal::RepeatedPlace,
         Refusal::NoInverse,
         Refusal::NotAccepted,
         Refusal::EqualLeaves,
-        Refusal::FileTooLong,
     ];
 
-    /// Its number, 1 to 16.
+    /// Its number, 1 to 17.
     pub const fn number(self) -> u8 {
         self as u8
     }
@@ -102,6 +105,7 @@ impl fmt::Display for Refusal {
             Refusal::NotAccepted => "an opening handed to the extractor is not accepted",
             Refusal::EqualLeaves => "the leaves handed to the extractor are equal",
             Refusal::FileTooLong => "the contents of a file are more than 4294967295 bytes",
+            Refusal::RepeatedPlace => "two records of a push have the same place",
         })
     }
 }
@@ -114,11 +118,12 @@ mod tests {
 
     #[test]
     fn every_row_has_its_number() {
-        for (refusal, number) in Refusal::ALL.into_iter().zip(1..) {
-            assert_eq!(refusal.number(), number);
+        let numbers = [1, 2, 3, 4, 5, 6, 7, 8, 9, 10, 11, 12, 16, 17, 13, 14, 15];
+        assert_eq!(Refusal::ALL.map(Refusal::number), numbers);
+        for (refusal, number) in Refusal::ALL.into_iter().zip(numbers) {
             assert_eq!(Refusal::from_number(number), Some(refusal));
         }
-        for number in [0, 17, 99, 255] {
+        for number in [0, 18, 99, 255] {
             assert_eq!(Refusal::from_number(number), None);
         }
     }
@@ -128,6 +133,6 @@ mod tests {
         let mut words: Vec<String> = Refusal::ALL.iter().map(Refusal::to_string).collect();
         words.sort();
         words.dedup();
-        assert_eq!(words.len(), 16);
+        assert_eq!(words.len(), 17);
     }
 }

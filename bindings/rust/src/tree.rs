@@ -9,16 +9,17 @@ use crate::set::ParameterSet;
 /// A tree: a set and the store of its leaves.
 ///
 /// ```
-/// use opening_tree::{published, Record, Tree};
+/// use opening_tree::{published, Record, Refusal, Tree};
 ///
 /// let set = published::width_8(4, 2)?;
 /// let mut tree = Tree::build(&set, &[0; 16])?; // four leaves of four words
 /// assert_eq!(tree.replace(3, &[7, 7, 7, 7])?, 2); // compressions
-/// let record = Record::new(0, &[9, 8, 7, 6]).expect("at most six words");
-/// assert_eq!(tree.push(&[record, record])?, 4);
-/// assert_eq!(tree.leaves(), [9, 8, 7, 6, 0, 0, 0, 0, 0, 0, 0, 0, 7, 7, 7, 7]);
+/// let [first, second] = [0, 1].map(|place| Record::new(place, &[9, 8, 7, 6]).expect("at most six words"));
+/// assert_eq!(tree.push(&[second, first])?, 4);
+/// assert_eq!(tree.leaves(), [9, 8, 7, 6, 9, 8, 7, 6, 0, 0, 0, 0, 7, 7, 7, 7]);
 /// assert_eq!(tree.root(), set.storeless_root(tree.leaves())?);
-/// # Ok::<(), opening_tree::Refusal>(())
+/// assert_eq!(tree.push(&[first, second, first]), Err(Refusal::RepeatedPlace)); // and the tree is as it was
+/// # Ok::<(), Refusal>(())
 /// ```
 #[derive(Clone, Debug, PartialEq, Eq, Hash)]
 pub struct Tree {
@@ -79,7 +80,8 @@ impl Tree {
         entries::replace(&self.set.numbers(), &mut self.store, place, leaf)
     }
 
-    /// Makes the replacements in order, all or none, and answers the compressions made, h for each. Refusals 10 to 12.
+    /// Makes the replacements in order, all or none, and answers the compressions made, h for each. Refusals 10 to 12, and 17 for records
+    /// of which two have the same place.
     pub fn push(&mut self, records: &[Record]) -> Result<u64, Refusal> {
         entries::push(&self.set.numbers(), &mut self.store, records)
     }

@@ -3,10 +3,11 @@
 mod model;
 mod support;
 
+use model::field::P;
 use model::set::Set;
-use opening_tree::ParameterSet;
+use opening_tree::{ParameterSet, Record};
 use support::calls::{numbers, Answer, Call, Entry};
-use support::cases::{call, greatest_height, set_for, set_of, SHAPES};
+use support::cases::{call, greatest_height, records, set_for, set_of, SHAPES};
 use support::collisions::{collision, Collision, Kind};
 use support::damage::{damage, EDGES};
 use support::generator::Generator;
@@ -21,9 +22,12 @@ fn library_answers_as_the_model() {
     let generator = &mut Generator(SEED);
     let tally = &mut Tally::default();
     drawn_calls(generator, tally);
+    let [drawn, _] = tally.pushes();
     heights(generator, tally);
     edges_of_sets(generator, tally);
     edges_of_calls(generator, tally);
+    let [at_edges, _] = tally.pushes();
+    long_pushes(generator, tally);
     collisions(generator, tally);
     tally.print();
     assert!(tally.total() >= LEAST_CALLS);
@@ -31,6 +35,10 @@ fn library_answers_as_the_model() {
     let levels = tally.levels();
     assert!(levels.len() >= 4 && levels.iter().all(|&count| count >= 20), "{levels:?}");
     assert!(levels.iter().sum::<u64>() >= 500, "{levels:?}");
+    let [_, long] = tally.pushes();
+    assert!(drawn.done >= 1_000 && drawn.repeated >= 400, "{drawn:?}");
+    assert!(at_edges.repeated >= drawn.repeated + 100, "{at_edges:?} after {drawn:?}");
+    assert!(long.done >= 50 && long.repeated >= 500, "{long:?}");
 }
 
 /// Every function with drawn arguments: as they are, with one change, or with two.
@@ -114,8 +122,10 @@ fn edges_of_call(call: &Call, tally: &mut Tally) {
     numbers_at_edges(call, tally);
     lengths_at_edges(call, tally);
     places_at_edges(call, tally);
-    if call.entry == Entry::LeafOfFile {
-        contents_at_edges(call, tally);
+    match call.entry {
+        Entry::Push => repeats_at_edges(call, tally),
+        Entry::LeafOfFile => contents_at_edges(call, tally),
+        _ => {}
     }
 }
 
@@ -149,6 +159,59 @@ fn places_at_edges(call: &Call, tally: &mut Tally) {
             call.numbers[i] = number;
             tally.compare(call);
         }
+    }
+}
+
+/// Every two records of a push that is done.
+fn repeats_at_edges(call: &Call, tally: &mut Tally) {
+    for to in 0..call.buffers[1].len() / Record::NUMBERS {
+        for from in 0..to {
+            repeated(call, from, to, tally);
+        }
+    }
+}
+
+/// A push that is done is refused where one record gets the place of another, with a leaf of its own or the same one. What is tested
+/// before is refused before: a number that is not a word, and a place that the tree doesn't have.
+fn repeated(call: &Call, from: usize, to: usize, tally: &mut Tally) {
+    let (from, to) = (from * Record::NUMBERS, to * Record::NUMBERS);
+    let mut compare = |change: &dyn Fn(&mut [u64]), number: u8| {
+        let mut call = call.clone();
+        change(&mut call.buffers[1]);
+        assert_eq!(tally.compare(call), Answer::Refused(number), "records at {from} and {to}");
+    };
+    let beyond = call.set.places() as u64;
+    compare(&|list| list[to] = list[from], 17);
+    compare(&|list| list.copy_within(from..from + Record::NUMBERS, to), 17);
+    compare(&|list| (list[to], list[from + 1]) = (list[from], P), 12);
+    compare(&|list| (list[to], list[from], list[from + 1]) = (beyond, beyond, P), 11);
+}
+
+/// Lists of about 128 records and of more, at places that rise, fall or do neither: done, and refused where two are the same.
+fn long_pushes(generator: &mut Generator, tally: &mut Tally) {
+    for shape in SHAPES {
+        let arity = shape.0 / shape.1;
+        let height = (0..).find(|&height| arity.pow(height) >= 200).expect("arities are above 1");
+        let set = set_of(generator, shape, height.into(), 2, 1);
+        for count in [127, 128, 129, 200] {
+            let mut places: Vec<u64> = generator.some_below(count, set.places() as usize).into_iter().map(|n| n as u64).collect();
+            long_push(generator, &set, &places, tally);
+            places.sort();
+            long_push(generator, &set, &places, tally);
+            places.reverse();
+            long_push(generator, &set, &places, tally);
+        }
+    }
+}
+
+fn long_push(generator: &mut Generator, set: &Set, places: &[u64], tally: &mut Tally) {
+    let buffers = vec![generator.words(set.store_words() as usize), records(generator, set, places)];
+    let call = Call { entry: Entry::Push, set: set.clone(), numbers: vec![], buffers, contents: vec![] };
+    let count = places.len();
+    assert_eq!(tally.compare(call.clone()), Answer::Number(set.height * count as u64));
+    let two = generator.some_below(2, count);
+    for (from, to) in [(0, 1), (0, count - 1), (count / 2, count / 2 + 1), (count - 2, count - 1), (two[0], two[1])] {
+        repeated(&call, from, to, tally);
     }
 }
 

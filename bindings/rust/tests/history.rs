@@ -3,6 +3,8 @@
 mod model;
 mod support;
 
+use std::collections::BTreeMap;
+
 use model::field::is_word;
 use model::set::Set;
 use opening_tree::{NotAccepted, ParameterSet, Record, Refusal, SetNumbers, Tree};
@@ -35,6 +37,11 @@ impl Book {
         if records.iter().any(|(_, leaf)| !leaf.iter().all(|&n| is_word(n))) {
             return Err(Refusal::NotAWord);
         }
+        let mut places: Vec<u64> = records.iter().map(|&(place, _)| place).collect();
+        places.sort();
+        if places.windows(2).any(|two| two[0] == two[1]) {
+            return Err(Refusal::RepeatedPlace);
+        }
         for &(place, leaf) in records {
             self.leaves[place as usize] = leaf.to_vec();
         }
@@ -42,43 +49,68 @@ impl Book {
     }
 }
 
-/// A leaf of l numbers, at times with one that is not a word.
-fn leaf(generator: &mut Generator, l: usize) -> Vec<u64> {
+/// One of the numbers becomes one that is not a word.
+fn damage_leaf(generator: &mut Generator, leaf: &mut [u64]) {
+    leaf[generator.below(leaf.len())] = generator.no_word();
+}
+
+/// A place that the tree doesn't have.
+fn place_beyond(generator: &mut Generator, places: u64) -> u64 {
+    generator.pick(&[places, places + 1, u64::MAX])
+}
+
+/// A place and a leaf, either at times refused.
+fn replacement(generator: &mut Generator, places: u64, l: usize) -> (u64, Vec<u64>) {
+    let place = if generator.once_in(12) { place_beyond(generator, places) } else { generator.number() % places };
     let mut leaf = generator.words(l);
     if generator.once_in(12) {
-        leaf[generator.below(l)] = generator.no_word();
+        damage_leaf(generator, &mut leaf);
     }
-    leaf
-}
-
-/// A place, at times none of the tree.
-fn place(generator: &mut Generator, places: u64) -> u64 {
     if generator.once_in(12) {
-        generator.pick(&[places, places + 1, u64::MAX])
-    } else {
-        generator.number() % places
+        leaf.push(0);
     }
+    (place, leaf)
 }
 
-fn change(generator: &mut Generator, tree: &mut Tree, book: &mut Book) -> Result<u64, Refusal> {
+/// Leaves for different places. At times one of the places is none of the tree, one of the leaves is not of words, or a place stands
+/// twice; then its leaf is at times the same.
+fn records(generator: &mut Generator, places: u64, l: usize) -> Vec<(u64, Vec<u64>)> {
+    let count = generator.pick(&[0, 1, 2, 3, 20]).min(places as usize);
+    let chosen = generator.some_below(count, places as usize);
+    let mut records: Vec<(u64, Vec<u64>)> = chosen.into_iter().map(|place| (place as u64, generator.words(l))).collect();
+    if count == 0 {
+        return records;
+    }
+    if generator.once_in(8) {
+        records[generator.below(count)].0 = place_beyond(generator, places);
+    }
+    if generator.once_in(8) {
+        let at = generator.below(count);
+        damage_leaf(generator, &mut records[at].1);
+    }
+    if generator.once_in(4) {
+        let (place, leaf) = generator.pick(&records);
+        let leaf = if generator.once_in(2) { leaf } else { generator.words(l) };
+        records.insert(generator.below(count + 1), (place, leaf));
+    }
+    records
+}
+
+/// How many records were pushed, none by a replacement, and the answer.
+fn change(generator: &mut Generator, tree: &mut Tree, book: &mut Book) -> (usize, Result<u64, Refusal>) {
     let places = tree.set().places();
     if generator.once_in(2) {
-        let place = place(generator, places);
-        let mut leaf = leaf(generator, book.l);
-        if generator.once_in(12) {
-            leaf.push(0);
-        }
+        let (place, leaf) = replacement(generator, places, book.l);
         let answer = tree.replace(place, &leaf);
         assert_eq!(answer, book.replace(place, &leaf));
-        return answer;
+        return (0, answer);
     }
-    let count = generator.pick(&[0, 1, 2, 3, 20]);
-    let drawn: Vec<(u64, Vec<u64>)> = (0..count).map(|_| (place(generator, places), leaf(generator, book.l))).collect();
+    let drawn = records(generator, places, book.l);
     let records: Vec<Record> = drawn.iter().map(|(place, leaf)| Record::new(*place, leaf).expect("at most six words")).collect();
     let noted: Vec<(u64, &[u64])> = drawn.iter().map(|(place, leaf)| (*place, &leaf[..])).collect();
     let answer = tree.push(&records);
     assert_eq!(answer, book.push(&noted));
-    answer
+    (records.len(), answer)
 }
 
 /// The tree is the one of the book's leaves, and each place opens to its leaf and to no other.
@@ -100,7 +132,7 @@ fn compare(tree: &Tree, book: &Book) {
 #[test]
 fn a_tree_is_that_of_its_leaves_after_any_changes() {
     let generator = &mut Generator(SEED);
-    let (mut done, mut refused) = (0, 0);
+    let (mut done, mut several, mut refused) = (0, 0, BTreeMap::new());
     for shape in SHAPES {
         for _ in 0..LISTS {
             let height = generator.below(if shape.0 / shape.1 <= 4 { 4 } else { 2 }) as u64;
@@ -115,12 +147,18 @@ fn a_tree_is_that_of_its_leaves_after_any_changes() {
             let mut book = Book { leaves: leaves.chunks(l).map(<[u64]>::to_vec).collect(), l, height };
             for _ in 0..CHANGES {
                 match change(generator, &mut tree, &mut book) {
-                    Ok(_) => done += 1,
-                    Err(_) => refused += 1,
+                    (records, Ok(_)) => {
+                        done += 1;
+                        several += u64::from(records > 1);
+                    }
+                    (_, Err(refusal)) => *refused.entry(refusal.number()).or_insert(0) += 1,
                 }
             }
             compare(&tree, &book);
         }
     }
-    assert!(done > 1000 && refused > 300, "{done} done, {refused} refused");
+    println!("{done} done, of which {several} were pushes of several records; refused, by number: {refused:?}");
+    assert!(done > 1000 && several > 300);
+    assert_eq!(refused.keys().collect::<Vec<_>>(), [&10, &11, &12, &17]);
+    assert!(refused.values().all(|&count| count > 50));
 }

@@ -175,6 +175,7 @@ fn places_and_words_at_the_edge() {
         assert_eq!(tree.replace(place, &[0, 0]), Err(Refusal::BadPlace));
         let other = Record { place, words: [0; 6] };
         assert_eq!(tree.push(&[Record { place: 0, ..other }, other]), Err(Refusal::BadPlace));
+        assert_eq!(tree.push(&[other, other]), Err(Refusal::BadPlace));
     }
     assert_eq!(tree.replace(0, &[P, 0]), Err(Refusal::NotAWord));
     assert_eq!(tree.replace(0, &[0, 0, 0]), Err(Refusal::BadLength));
@@ -183,6 +184,30 @@ fn places_and_words_at_the_edge() {
     assert_eq!(Tree::build(&set, &[P, 0, 0, 0]), Err(Refusal::NotAWord));
     assert_eq!(Tree::build(&set, &[P - 1, 0, 0, 0]), Ok(tree));
     assert_eq!(Tree::build(&set, &[1, 0, 0]), Err(Refusal::BadLength));
+}
+
+/// A place twice is refused, with equal leaves too, and a number that is not a word before it. Equal leaves at different places are taken.
+#[test]
+fn places_of_a_push() {
+    let set = set(T);
+    let mut tree = Tree::build(&set, &[1, 0, 0, 0]).expect("four words");
+    let before = tree.clone();
+    let [first, second] = [0, 1].map(|place| Record { place, words: [0; 6] });
+    let third = Record { words: [1; 6], ..first };
+    let lists =
+        [&[first, first][..], &[first, third], &[first, second, third], &[second, second, first], &[third, first, second]];
+    for list in lists {
+        assert_eq!(tree.push(list), Err(Refusal::RepeatedPlace));
+        let no_word = Record { words: [0, P, 0, 0, 0, 0], ..list[0] };
+        assert_eq!(tree.push(&[list, &[no_word]].concat()), Err(Refusal::NotAWord));
+        assert_eq!(tree.push(&[list, &[Record { place: 2, ..no_word }]].concat()), Err(Refusal::BadPlace));
+    }
+    assert_eq!(tree, before);
+    let mut store = [P, 0, 0, 0, 6, 4];
+    assert_eq!(entries::push(&T, &mut store, &[first, first]), Err(Refusal::NotAWord));
+    assert_eq!(store, [P, 0, 0, 0, 6, 4]);
+    assert_eq!(tree.push(&[second, first]), Ok(2));
+    assert_eq!(tree.leaves(), [0; 4]);
 }
 
 #[test]

@@ -10,7 +10,7 @@ use lib.Seq.{length-take-le}
 use borrow.Author.Tests.{eqb-true, ltb-true, not-false}
 use Rattle.modular.specs.Arithmetic.{allWords}
 use Rattle.modular.proofs.Words.{left-true, right-true, words-left, words-right}
-use Rattle.refusals.specs.Table.{refusal, notWords, firstRefusal}
+use Rattle.refusals.specs.Table.{notWords, firstRefusal}
 use Rattle.refusals.proofs.Table.{Numbered, none, next, first-none}
 use Rattle.refusals.proofs.LengthsPlacesAndWords as three
 use Rattle.parameters.specs.declared.ParameterSet.{ParameterSet}
@@ -19,11 +19,10 @@ use Rattle.merkle.specs.Lists.{put}
 use Rattle.merkle.specs.Replacement.{changed}
 use Rattle.merkle.proofs.Lists.{length-put, words-put}
 use Rattle.merkle.proofs.Levels.{fits}
-use Rattle.repeats.specs.Repeats.{repeats}
 use Rattle.trees.specs.SetTrees.{treeOf, leafCount}
 use Rattle.tree_entries.specs.Trees.{has}
 use Rattle.pushes.specs.declared.record.Record.{Record}
-use Rattle.pushes.specs.Records.{leafOf, changesOf, placesOf, placesBelow, usedWords, SixWords}
+use Rattle.pushes.specs.Records.{leafOf, changesOf, placesBelow, usedWords, SixWords}
 use Rattle.push_entries.specs.Pushes.{fewRecords}
 use Rattle.history.specs.LeafBook.{Call, replacement, push, enterAll, bookRefusals, bookCount, bookReply, entered, bookAfter}
 use Rattle.history.proofs.Replies.{after-holds}
@@ -59,7 +58,7 @@ pub record Fit (s : ParameterSet) (rs : List Record) : Type 0 where
 pub fit : (s : ParameterSet) (rs : List Record) → SixWords rs → firstRefusal (bookRefusals s (push rs)) ≡ 0 → Fit s rs
 unfolding bookRefusals
 fit s rs sixes z =
-    let early = first-none (three.all (primeOf s) [] none (not (fewRecords rs)) (not (placesBelow (leafCount s) rs)) (usedWords (s .«node_size») rs)) (refusal 17 (repeats (placesOf rs)) ∷ [])
+    let early = first-none (three.all (primeOf s) [] none (not (fewRecords rs)) (not (placesBelow (leafCount s) rs)) (usedWords (s .«node_size») rs)) _
     (three.all-numbered (primeOf s) [] none _ _ _) z in
     let P = three.passed (primeOf s) [] none (not (fewRecords rs)) (not (placesBelow (leafCount s) rs)) (usedWords (s .«node_size») rs) (early .0) in
     record { sixes = sixes; inside = not-false (placesBelow (leafCount s) rs) (P .place); wordy = P .words }

@@ -27,7 +27,7 @@ fn replace(input: &[u8], at: usize, set: ParameterSet, store: &mut [u64]) -> Cal
 
 // The records' numbers, seven a record.
 fn push(input: &[u8], at: usize, set: ParameterSet, store: &mut [u64]) -> Called {
-    let mut numbers = [0u64; 112];
+    let mut numbers = [0u64; 1344];
     let list = lists::read(input, at, &mut numbers, 0);
     output::text(b"push");
     output::operand((list.count / 7) as u64);

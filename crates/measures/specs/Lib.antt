@@ -1,2 +1,3 @@
--- What the measured functions require.
+-- What the measured functions require and give.
 pub mod Measured
+pub mod Pushed

@@ -1,5 +1,7 @@
-// What the benchmark calls beside the library's own C functions: a permutation and a compression without validation. They require what
-// a validated set gives.
+// What the benchmark calls beside the library's own C functions: a permutation and a compression without validation, and the passes of a
+// push over its records. They require what a validated set gives.
+pub mod pushed;
+
 ghost use mathlib.Core.Path.{_≡_};
 ghost use Prim.Native.Nat.{_≤_};
 ghost use lib.ListN.{length};

@@ -1,5 +1,7 @@
 //! Every function of the library: the first refusal that applies, or the work.
 
+use std::collections::HashSet;
+
 use super::field;
 use super::files;
 use super::permutation;
@@ -167,6 +169,8 @@ pub fn push(set: &Set, store: &mut [u64], records: &[u64]) -> Result<u64, u8> {
         words(leaf)?;
     }
     words(store)?;
+    let places: HashSet<u64> = records.iter().map(|(place, _)| *place).collect();
+    refuse(17, places.len() < records.len())?;
     Ok(records.iter().map(|(place, leaf)| tree::replace(set, store, *place, leaf)).sum())
 }
 

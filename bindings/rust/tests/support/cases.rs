@@ -1,4 +1,7 @@
-//! Calls that are done, but for what the store or an opening may hold. What a function only writes, or does not look at, is junk.
+//! Calls that are done, but for what the store or an opening may hold, and for a place that a push may have twice. What a function only
+//! writes, or does not look at, is junk.
+
+use opening_tree::Record;
 
 use super::calls::{Call, Entry};
 use super::generator::Generator;
@@ -78,11 +81,47 @@ fn store(generator: &mut Generator, set: &Set) -> Vec<u64> {
     store
 }
 
-/// A flat record: the place, the leaf, and junk.
-fn record(generator: &mut Generator, set: &Set) -> Vec<u64> {
+/// Different places of the tree, so many or all of them, in any order. At times the last is among them, and at times they rise.
+fn places(generator: &mut Generator, set: &Set, count: usize) -> Vec<u64> {
+    let all = set.places() as usize;
+    let mut places: Vec<u64> = generator.some_below(count.min(all), all).into_iter().map(|place| place as u64).collect();
+    let last = all as u64 - 1;
+    if generator.once_in(8) && !places.is_empty() && !places.contains(&last) {
+        places[0] = last;
+    }
+    if generator.once_in(4) {
+        places.sort();
+    }
+    places
+}
+
+/// Flat records: for each place it, a leaf, and junk.
+pub fn records(generator: &mut Generator, set: &Set, places: &[u64]) -> Vec<u64> {
     let l = set.node_size as usize;
-    let place = place(generator, set);
-    [vec![place], generator.words(l), generator.junk(6 - l)].concat()
+    let mut record = |&place: &u64| [vec![place], generator.words(l), generator.junk(6 - l)].concat();
+    places.iter().flat_map(&mut record).collect()
+}
+
+/// Gives a record the place of another: the last that of the first, one that of the record before it, or any that of any. At times it
+/// gets the leaf too. Where there is one record alone, it is there twice.
+pub fn repeat_place(generator: &mut Generator, records: &mut Vec<u64>) {
+    let count = records.len() / Record::NUMBERS;
+    let (from, to) = match (count, generator.below(3)) {
+        (0, _) => return,
+        (1, _) => return records.extend_from_within(..Record::NUMBERS),
+        (_, 0) => (0, count - 1),
+        (_, 1) => {
+            let at = generator.below(count - 1);
+            (at, at + 1)
+        }
+        _ => {
+            let two = generator.some_below(2, count);
+            (two[0], two[1])
+        }
+    };
+    let start = from * Record::NUMBERS;
+    let end = start + generator.pick(&[1, Record::NUMBERS]);
+    records.copy_within(start..end, to * Record::NUMBERS);
 }
 
 /// A place, and a leaf and siblings with the root that they end in.
@@ -152,7 +191,12 @@ pub fn call(generator: &mut Generator, entry: Entry, set: Set) -> Call {
         Entry::Push => {
             // At times over sixteen.
             let most = if generator.once_in(16) { 40 } else { 5 };
-            let records = (0..generator.below(most)).flat_map(|_| record(generator, &set)).collect();
+            let count = generator.below(most);
+            let places = places(generator, &set, count);
+            let mut records = records(generator, &set, &places);
+            if generator.once_in(8) {
+                repeat_place(generator, &mut records);
+            }
             (vec![], vec![store(generator, &set), records])
         }
         Entry::Extract => {

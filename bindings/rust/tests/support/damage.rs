@@ -1,6 +1,7 @@
 //! Changes to a call, most of which some row refuses or a verdict rejects.
 
 use super::calls::{Call, Entry};
+use super::cases::repeat_place;
 use super::generator::Generator;
 use crate::model::field::{add, inverse, is_word, subtract, P};
 use crate::model::set::Set;
@@ -123,6 +124,7 @@ fn damage_buffer(generator: &mut Generator, call: &mut Call) {
             let record = generator.below(buffer.len().div_ceil(7));
             buffer[record * 7] = generator.pick(&[1, 2, 1 << 32, (1 << 32) - 1, u64::MAX]);
         }
+        3 if is_records => repeat_place(generator, buffer),
         // Two nodes swapped: leaves, siblings or whatever the buffer has.
         2 => {
             let nodes = buffer.len() / l;

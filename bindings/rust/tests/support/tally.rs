@@ -1,15 +1,31 @@
 //! Compares calls, and counts what they answered.
 
+use opening_tree::Record;
+
 use super::calls::{Answer, Call, Entry};
 use crate::model::field::is_word;
 
 /// Refusals are at their numbers.
 const DONE: usize = 0;
-const LAST_REFUSAL: usize = 16;
+const LAST_REFUSAL: usize = 17;
 const REJECTED: usize = LAST_REFUSAL + 1;
 
 /// The refusal of a file of 2^32 bytes or more. No call that is drawn has so many; tests/files.rs has.
 const FILE_TOO_LONG: u8 = 16;
+
+/// The refusal of a push that has a place twice.
+const REPEATED_PLACE: u8 = 17;
+
+/// The library looks for a place that stands twice in another way where there are over so many records.
+const FEW_RECORDS: usize = 128;
+
+/// Pushes of two records and more.
+#[derive(Clone, Copy, Debug, Default)]
+pub struct Pushes {
+    pub done: u64,
+    /// Refused since a place stands twice.
+    pub repeated: u64,
+}
 
 #[derive(Default)]
 pub struct Tally {
@@ -18,6 +34,8 @@ pub struct Tally {
     passed_over: [u64; Entry::ALL.len()],
     /// Extractions by the level they answered.
     levels: Vec<u64>,
+    /// Those of few records, and those of more.
+    pushes: [Pushes; 2],
 }
 
 impl Tally {
@@ -58,6 +76,18 @@ impl Tally {
             self.levels.resize(self.levels.len().max(level + 1), 0);
             self.levels[level] += 1;
         }
+        if call.entry == Entry::Push {
+            self.count_push(call.buffers[1].len() / Record::NUMBERS, answer);
+        }
+    }
+
+    fn count_push(&mut self, records: usize, answer: Answer) {
+        let pushes = &mut self.pushes[usize::from(records > FEW_RECORDS)];
+        match answer {
+            Answer::Number(_) if records > 1 => pushes.done += 1,
+            Answer::Refused(REPEATED_PLACE) => pushes.repeated += 1,
+            _ => {}
+        }
     }
 
     pub fn total(&self) -> u64 {
@@ -66,6 +96,11 @@ impl Tally {
 
     pub fn levels(&self) -> &[u64] {
         &self.levels
+    }
+
+    /// Pushes of few records, and of more.
+    pub fn pushes(&self) -> [Pushes; 2] {
+        self.pushes
     }
 
     pub fn print(&self) {
@@ -79,6 +114,9 @@ impl Tally {
             println!(" {:>8} {:>14}", counts[REJECTED], self.passed_over[entry as usize]);
         }
         println!("extractions by level: {:?}", self.levels);
+        for (of, pushes) in [(format!("2 to {FEW_RECORDS}"), self.pushes[0]), (format!("over {FEW_RECORDS}"), self.pushes[1])] {
+            println!("pushes of {of} records: {} done, {} with a place twice", pushes.done, pushes.repeated);
+        }
         println!("calls: {}", self.total());
     }
 

@@ -42,7 +42,7 @@ loop-again c =
     let r = k .before .before in
     let l = r .before .before in
     let a = l .before .before .before .args in
-    let inside : l .loop .i < length (a .numbers .now) / 7 = r .before .loop-test .taken in
+    let inside : l .loop .i < length (a .numbers .now) / 7 = omega (arith, r .before .loop-test .taken) in
     let e = r .record-at .ensures ∙ sym (listed-at (a .numbers .now) (l .loop .i) blank inside) in
     reached-next _ _ _ _ _ _ _ _ (l .loop .inv) (omega (arith, inside, listed-count (a .numbers .now))) _ _ (rw e at (k .step .ensures)) (k .step .kept .1 .0)
 

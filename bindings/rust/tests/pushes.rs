@@ -1,0 +1,220 @@
+//! Pushes beside the reference: of lists that repeat a place and of lists that don't, in trees of one place and of up to 2^22.
+
+mod model;
+mod support;
+
+use std::process::Command;
+
+use model::field::P;
+use model::set::Set;
+use opening_tree::entries::{self, record_numbers};
+use opening_tree::{ParameterSet, Record, Refusal, Tree};
+use support::calls::numbers;
+use support::cases::{set_of, SHAPES};
+use support::generator::Generator;
+use support::reference::Input;
+
+const SEED: u64 = 17;
+
+/// What a script of the reference prints.
+fn printed(script: &str) -> String {
+    let path = format!("{}/../../reference/{script}", env!("CARGO_MANIFEST_DIR"));
+    let output = Command::new("python3").arg(&path).output().unwrap_or_else(|error| panic!("python3 {path}: {error}"));
+    assert!(output.status.success(), "python3 {path}: {}", String::from_utf8_lossy(&output.stderr));
+    String::from_utf8(output.stdout).expect("text")
+}
+
+/// The records of a flat list.
+fn records(list: &[u64]) -> Vec<Record> {
+    let record = |flat: &[u64]| Record { place: flat[0], words: flat[1..].try_into().expect("six words") };
+    list.chunks(Record::NUMBERS).map(record).collect()
+}
+
+/// What the reference says of a push: its answer, and the places and new values of the store's numbers that it changes.
+struct Wanted {
+    records: usize,
+    answer: Result<u64, u8>,
+    changes: Vec<(usize, u64)>,
+}
+
+impl Wanted {
+    /// The form is that of the docstring of `reference/push_vectors.py`.
+    fn read(line: &str) -> Wanted {
+        let parts: Vec<&str> = line.split(' ').collect();
+        let number = |text: &str| text.parse::<u64>().unwrap_or_else(|error| panic!("{text}: {error}"));
+        let (records, answer, changed, listed) = match &parts[..] {
+            ["push", records, "refused", refusal] => (records, Err(number(refusal) as u8), 0, &[][..]),
+            ["push", records, "compressions", made, "changed", changed, listed @ ..] => {
+                (records, Ok(number(made)), number(changed), listed)
+            }
+            _ => panic!("no line of a push: {line}"),
+        };
+        let changes: Vec<_> = listed.chunks(2).map(|pair| (number(pair[0]) as usize, number(pair[1]))).collect();
+        assert_eq!(changes.len() as u64, changed);
+        Wanted { records: number(records) as usize, answer, changes }
+    }
+}
+
+/// A store as the reference has it, and one for each way of handing in records.
+struct Stores {
+    wanted: Vec<u64>,
+    by_records: Vec<u64>,
+    by_numbers: Vec<u64>,
+}
+
+impl Stores {
+    fn new(store: Vec<u64>) -> Stores {
+        Stores { wanted: store.clone(), by_records: store.clone(), by_numbers: store }
+    }
+
+    /// Pushes the list in both ways, and compares both answers and both whole stores.
+    fn push(&mut self, set: &Set, list: &[u64], wanted: &Wanted) {
+        let (set, records) = (&numbers(set), records(list));
+        assert_eq!(records.len(), wanted.records);
+        for &(at, word) in &wanted.changes {
+            assert_ne!(self.wanted[at], word, "the reference lists a number that stays");
+            self.wanted[at] = word;
+        }
+        let places = || records.iter().map(|record| record.place).collect::<Vec<u64>>();
+        let answer = entries::push(set, &mut self.by_records, &records);
+        assert_eq!(answer.map_err(Refusal::number), wanted.answer, "records for {:?} under {set:?}", places());
+        let answer = entries::push_numbers(set, &mut self.by_numbers, list);
+        assert_eq!(answer.map_err(Refusal::number), wanted.answer, "numbers for {:?} under {set:?}", places());
+        for store in [&self.by_records, &self.by_numbers] {
+            assert!(*store == self.wanted, "{} after {:?} under {set:?}", difference(store, &self.wanted), places());
+        }
+    }
+}
+
+/// Where two stores differ first.
+fn difference(store: &[u64], wanted: &[u64]) -> String {
+    match store.iter().zip(wanted).position(|(a, b)| a != b) {
+        Some(at) => format!("number {at} of the store is {} and not {}", store[at], wanted[at]),
+        None => format!("the store has {} numbers and not {}", store.len(), wanted.len()),
+    }
+}
+
+/// The store that a case begins with: zeros, and the runs that are written over them.
+fn read_store(input: &mut Input) -> Vec<u64> {
+    let mut store = vec![0; input.number() as usize];
+    for _ in 0..input.number() {
+        let (place, length) = (input.number() as usize, input.number() as usize);
+        store[place..place + length].fill_with(|| input.number());
+    }
+    store
+}
+
+/// The cases of `reference/push_cases.py`, whose docstring has their form, with the lines of `reference/push_vectors.py`.
+#[test]
+fn the_reference_has_the_same_answers_and_stores() {
+    const RECORD_PLACES: usize = 7168;
+    let mut input = Input::new(&printed("push_cases.py"));
+    let lines = printed("push_vectors.py");
+    let mut lines = lines.lines();
+    let (mut done, mut refused, mut most_places) = (0, 0, 0);
+    for _ in 0..input.number() {
+        let set = input.set();
+        let mut stores = Stores::new(read_store(&mut input));
+        let pushes = input.number();
+        let Set { width, node_size, height, full_rounds, partial_rounds, .. } = &set;
+        let begins = format!("{width} {node_size} {height} {full_rounds} {partial_rounds} pushes {pushes}");
+        assert_eq!(lines.next(), Some(&begins[..]));
+        most_places = most_places.max(set.places());
+        for _ in 0..pushes {
+            let list = input.list(RECORD_PLACES);
+            let wanted = Wanted::read(lines.next().expect("a line for each push"));
+            stores.push(&set, &list, &wanted);
+            match wanted.answer {
+                Ok(_) => done += 1,
+                Err(17) => refused += 1,
+                Err(_) => {}
+            }
+        }
+    }
+    assert!(input.is_at_its_end());
+    assert_eq!(lines.next(), None);
+    println!("{done} pushes done, {refused} that repeat a place, in trees of up to {most_places} places");
+    assert!(done > 150 && refused > 1000 && most_places == 1 << 22);
+}
+
+/// Small numbers, under which a tree has two leaves of two words.
+fn small() -> Set {
+    let (diagonal, constants) = (vec![1, 2, 3, 4], vec![0; 8]);
+    Set { width: 4, node_size: 2, height: 1, full_rounds: 2, partial_rounds: 0, diagonal, constants }
+}
+
+/// The number of the refusal of a push, by records and by numbers, after which the store is as it was.
+fn refusal(set: &Set, store: &[u64], records: &[Record]) -> u8 {
+    let (mut by_records, mut by_numbers) = (store.to_vec(), store.to_vec());
+    let refusal = entries::push(&numbers(set), &mut by_records, records).expect_err("refused");
+    assert_eq!(entries::push_numbers(&numbers(set), &mut by_numbers, record_numbers(records)), Err(refusal));
+    assert_eq!((&by_records[..], &by_numbers[..]), (store, store));
+    refusal.number()
+}
+
+#[test]
+fn a_repeated_place_is_refused_last() {
+    let record = Record { place: 1, words: [7, 8, P, P, P, P] };
+    for count in [2, 3, 128, 129, 300] {
+        let repeated = &mut vec![record; count];
+        assert_eq!(refusal(&small(), &[0; 6], repeated), 17);
+        let sets = [
+            Set { width: 5, ..small() },
+            Set { node_size: 4, ..small() },
+            Set { full_rounds: 3, ..small() },
+            Set { partial_rounds: 65, ..small() },
+            Set { height: 33, ..small() },
+            Set { constants: vec![0; 7], ..small() },
+            Set { constants: vec![P; 8], ..small() },
+            Set { diagonal: vec![1, 2, 0, 4], ..small() },
+            Set { diagonal: vec![P - 4; 4], ..small() },
+        ];
+        for (set, number) in sets.iter().zip(1..) {
+            assert_eq!(refusal(set, &[0; 6], repeated), number);
+        }
+        for length in [0, 5, 7] {
+            assert_eq!(refusal(&small(), &vec![P; length], repeated), 10);
+        }
+        let mut store = [0; 6];
+        let flat = &record_numbers(repeated)[..7 * count - 1];
+        assert_eq!(entries::push_numbers(&numbers(&small()), &mut store, flat), Err(Refusal::BadLength));
+        assert_eq!(store, [0; 6]);
+        // The store's numbers, then a leaf's, then a place.
+        assert_eq!(refusal(&small(), &[0, 0, 0, 0, 0, P], repeated), 12);
+        repeated[count - 1].words[1] = P;
+        assert_eq!(refusal(&small(), &[0; 6], repeated), 12);
+        repeated[0].place = 2;
+        assert_eq!(refusal(&small(), &[0; 6], repeated), 11);
+    }
+}
+
+/// A tree is as it was after a push that repeats a place, and goes on like one that saw no such push.
+#[test]
+fn trees_go_on_after_a_refused_push() {
+    let generator = &mut Generator(SEED);
+    for shape in SHAPES {
+        for height in 0..=3 {
+            let set = set_of(generator, shape, height, 2, 1);
+            let (places, l) = (set.places() as usize, set.node_size as usize);
+            let set = ParameterSet::new(numbers(&set)).expect("accepted");
+            let mut tree = Tree::build(&set, &generator.words(set.leaf_words())).expect("words");
+            for count in [1, 2, 100, 128, 129, 200] {
+                let count = count.min(places);
+                let chosen = generator.some_below(count, places);
+                let mut list: Vec<Record> =
+                    chosen.iter().map(|&place| Record::new(place as u64, &generator.words(l)).expect("six at most")).collect();
+                let mut other = tree.clone();
+                assert_eq!(other.push(&list), Ok(height * count as u64));
+                let again = Record { place: generator.pick(&list).place, ..generator.pick(&list) };
+                let at = generator.below(count + 1);
+                list.insert(at, again);
+                let before = tree.clone();
+                assert_eq!(tree.push(&list), Err(Refusal::RepeatedPlace));
+                assert_eq!(tree, before);
+                list.remove(at);
+                assert_eq!(tree.push(&list), Ok(height * count as u64));
+                assert_eq!(tree, other);
+            }
+        }
+    }
+}

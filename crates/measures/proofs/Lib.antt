@@ -1,0 +1,2 @@
+-- What the measured passes presume.
+mod Beginnings
