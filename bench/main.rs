@@ -1,18 +1,19 @@
 //! The proved library beside Rust versions of the same work, in interleaved rounds of one run. `tuned` keeps lazy numbers below
 //! 2^64 and sums in u128; `plain` brings every sum and product below p. The program prints Markdown and writes two pictures to
-//! the folder that it is handed; a second argument `quick` makes it do a tenth of the rounds, once.
+//! the folder that it is handed; a second argument `quick` makes it do a tenth of the rounds, once, without the longest pushes.
 mod charts;
 mod files;
 mod measure;
 mod picture;
 mod poseidon2;
 mod proved;
+mod repeats;
 mod report;
 mod trees;
 
 use charts::{Built, Growth};
 use measure::{Case, Times};
-use report::{Absorption, Choice, Floor, Row};
+use report::{Absorption, Choice, Floor, Pushed, Row};
 use trees::Sizes;
 
 /// Every width and node size, by falling width and rising arity.
@@ -36,6 +37,11 @@ const SIZES: [u32; 2] = [16, 20];
 const FILE_SHAPES: [(usize, usize); 3] = [(12, 6), (12, 1), (8, 4)];
 const AIMED: (usize, usize) = (12, 6);
 const FILE_BYTES: usize = 1 << 20;
+/// The shape at which a push is measured with its test for a place that stands twice; of how many records, or of all leaves where there
+/// are fewer, and in how many rounds. The longest is measured once, at the greater size. A quick run leaves out the last two.
+const PUSHED: (usize, usize) = (12, 6);
+const PUSHES: [(usize, usize); 4] = [(1, 90), (100, 30), (10_000, 6), (100_000, 3)];
+const LONG_PUSH: usize = 1_000_000;
 /// What the second picture is of, and its heights.
 const GROWING: (usize, usize) = (12, 6);
 const HEIGHTS: [usize; 7] = [8, 10, 12, 14, 16, 18, 20];
@@ -77,6 +83,7 @@ struct Bench {
     rows: Vec<Row>,
     floors: Vec<Floor>,
     absorptions: Vec<Absorption>,
+    pushes: Vec<Pushed>,
     choices: Vec<Choice>,
     builds: Vec<Built>,
     growth: Vec<Growth>,
@@ -91,6 +98,7 @@ impl Bench {
             rows: vec![],
             floors: vec![],
             absorptions: vec![],
+            pushes: vec![],
             choices: vec![],
             builds: vec![],
             growth: vec![],
@@ -131,6 +139,9 @@ impl Bench {
         for (a, b) in self.absorptions.iter_mut().zip(other.absorptions) {
             lower(&mut a.leaf, b.leaf);
             lower(&mut a.floor, b.floor);
+        }
+        for (a, b) in self.pushes.iter_mut().zip(other.pushes) {
+            a.times = a.times.best(b.times);
         }
         for (a, b) in self.choices.iter_mut().zip(other.choices) {
             lower(&mut a.build, b.build);
@@ -227,6 +238,50 @@ impl Bench {
             add("push, 100 records", case.push(some, &store, 100, draw), None);
             add("push, 10,000 records", case.push(few, &store, 10_000, draw), None);
         }
+        if (T, l) == PUSHED {
+            self.pushes(&case, &store, draw);
+        }
+    }
+
+    /// Pushes of one shape and size, with their test for a place that stands twice.
+    fn pushes<const T: usize>(&mut self, case: &Case<T>, store: &[u64], draw: &mut impl FnMut() -> u64) {
+        let leaves = case.sizes.leaves;
+        for &(records, rounds) in &PUSHES[..PUSHES.len() - usize::from(self.quick)] {
+            let (records, rounds) = (records.min(leaves), self.rounds(rounds));
+            eprintln!("t = {T}, l = {}, {leaves} leaves, pushes of {records}", case.sizes.node);
+            if records > 1 {
+                case.assert_repeats_refused(store, records, draw);
+            }
+            // One record is in either order.
+            let orders = if records == 1 { &[true][..] } else { &[true, false] };
+            for &rising in orders {
+                let times = case.tested_push(rounds, store, (records, rising), false, draw);
+                self.pushes.push(Pushed {
+                    leaves,
+                    records,
+                    rising,
+                    times,
+                    aimed: true,
+                });
+            }
+        }
+    }
+
+    /// The longest push.
+    fn long_push(&mut self, draw: &mut impl FnMut() -> u64) {
+        const T: usize = PUSHED.0;
+        let (l, records) = (PUSHED.1, LONG_PUSH);
+        let case = Case::<T>::new(l, height_near(SIZES[1], T / l), draw);
+        let leaves = case.sizes.leaves;
+        eprintln!("t = {T}, l = {l}, {leaves} leaves, a push of {records}");
+        let times = case.tested_push(1, &case.store(), (records, false), true, draw);
+        self.pushes.push(Pushed {
+            leaves,
+            records,
+            rising: false,
+            times,
+            aimed: false,
+        });
     }
 
     /// One shape at many heights, for the second picture.
@@ -304,6 +359,11 @@ impl Bench {
         report::print_floors(&self.floors);
         println!("\n### The leaf of a file beside its permutations alone\n");
         report::print_absorptions(&self.absorptions);
+        println!(
+            "\n### A push and its test for a place that stands twice, at t = {}, l = {}\n",
+            PUSHED.0, PUSHED.1
+        );
+        report::print_pushes(&self.pushes);
         println!("\n### To choose from, at about 2^20 leaves\n");
         report::print_choices(&self.choices);
     }
@@ -318,7 +378,10 @@ fn main() {
     };
     let load = report::load();
     let passes = if quick { 1 } else { PASSES };
-    let bench = (1..passes).fold(Bench::measured(quick), |best, _| best.best(Bench::measured(quick)));
+    let mut bench = (1..passes).fold(Bench::measured(quick), |best, _| best.best(Bench::measured(quick)));
+    if !quick {
+        bench.long_push(&mut poseidon2::seeded());
+    }
     let write = |name: &str, svg: String| std::fs::write(format!("{folder}/{name}"), svg).expect("the folder can be written");
     write("arity.svg", charts::by_arity(&bench.builds, SIZES));
     write("leaves.svg", charts::by_leaves(&bench.growth, GROWING));

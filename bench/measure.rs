@@ -2,7 +2,8 @@
 use crate::files;
 use crate::poseidon2::{Plain, Tuned, Version};
 use crate::proved;
-use crate::trees::{self, Rounds, Set, Sizes, RECORD};
+use crate::repeats;
+use crate::trees::{self, Rounds, Set, Sizes, NOT_A_WORD, RECORD, REPEATED};
 use std::hint::black_box;
 
 /// R_F and R_P.
@@ -13,6 +14,9 @@ const STATE_CALLS: usize = 400;
 const TREE_CALLS: usize = 40;
 /// An opening takes little: a round opens each place so many times.
 const OPENINGS: usize = 10;
+/// A round times the parts of a push so many times, each time with calls for at least so many records.
+const SAMPLES: usize = 20;
+const SAMPLE_RECORDS: usize = 2_000;
 
 /// The best times of the versions, in seconds a call.
 #[derive(Clone, Copy)]
@@ -42,6 +46,62 @@ impl Times {
     }
 }
 
+/// The best times of a push and of its test for a place that stands twice, in seconds.
+#[derive(Clone, Copy)]
+pub struct Tested {
+    pub proved: f64,
+    pub tuned: f64,
+    /// The tuned version without the test, where it is measured.
+    pub untested: Option<f64>,
+    /// The proved first pass over the records, without its part of the test and with it.
+    pub passes: [f64; 2],
+    /// Where a push searches its places.
+    pub search: Option<Search>,
+}
+
+#[derive(Clone, Copy)]
+pub struct Search {
+    /// The proved search by itself.
+    pub alone: f64,
+    /// Pushes of such a list whose last place is also the first, which the library refuses: with 12 before the search, for the store's
+    /// last number, and with 17 where the search ends.
+    pub refused: [f64; 2],
+}
+
+impl Search {
+    /// The search as it shows in whole calls.
+    pub fn shown(&self) -> f64 {
+        self.refused[1] - self.refused[0]
+    }
+}
+
+impl Tested {
+    /// The library's test: what it adds to the first pass, and the search.
+    pub fn test(&self) -> f64 {
+        self.most() - self.passes[0]
+    }
+
+    /// More than the test can take: the whole first pass, whatever it tests, and the search.
+    pub fn most(&self) -> f64 {
+        self.passes[1] + self.search.map_or(0.0, |search| search.alone)
+    }
+
+    /// The better of each.
+    pub fn best(self, other: Tested) -> Tested {
+        let lower = |a: [f64; 2], b: [f64; 2]| [a[0].min(b[0]), a[1].min(b[1])];
+        Tested {
+            proved: self.proved.min(other.proved),
+            tuned: self.tuned.min(other.tuned),
+            untested: self.untested.zip(other.untested).map(|(a, b)| a.min(b)),
+            passes: lower(self.passes, other.passes),
+            search: self.search.zip(other.search).map(|(a, b)| Search {
+                alone: a.alone.min(b.alone),
+                refused: lower(a.refused, b.refused),
+            }),
+        }
+    }
+}
+
 /// The processor time that this thread has taken, in seconds.
 fn clock() -> f64 {
     #[repr(C)]
@@ -61,38 +121,72 @@ fn clock() -> f64 {
     time.seconds as f64 + time.nanoseconds as f64 * 1e-9
 }
 
+/// The seconds that some work takes.
+fn timed(work: impl FnOnce()) -> f64 {
+    let begun = clock();
+    work();
+    clock() - begun
+}
+
 /// A best time that improves by less than this is not better.
 const NOISE: f64 = 0.002;
 /// Rounds go on past their number while a best time still improves, at most so many times over.
 const PATIENCE: usize = 3;
 
-/// Times the versions in turn, round by round, and gives the best time of each. There is a buffer for each version, and from round
-/// to round they change places, so that none has the better memory; after every round the buffers must be equal. Rounds go on
-/// while a best time got better in the last few of them.
+/// Versions that are timed in turn, round by round. There is a buffer for each version, and from round to round they change places,
+/// so that none has the better memory; after every round the buffers must be equal.
+struct Race<'a, F> {
+    versions: &'a [F],
+    buffers: Vec<Vec<u64>>,
+    best: Vec<f64>,
+    /// The rounds so far, and the last of them in which a best time got better.
+    rounds: usize,
+    improved: usize,
+}
+
+impl<'a, F: Copy> Race<'a, F> {
+    fn new(start: &[u64], versions: &'a [F]) -> Self {
+        Race {
+            versions,
+            buffers: vec![start.to_vec(); versions.len()],
+            best: vec![f64::MAX; versions.len()],
+            rounds: 0,
+            improved: 0,
+        }
+    }
+
+    fn round(&mut self, work: impl Fn(F, usize, &mut [u64])) {
+        for (j, buffer) in self.buffers.iter_mut().enumerate() {
+            let i = (j + self.rounds) % self.versions.len();
+            let taken = timed(|| work(self.versions[i], self.rounds, buffer));
+            if taken < self.best[i] * (1.0 - NOISE) {
+                self.improved = self.rounds;
+            }
+            self.best[i] = self.best[i].min(taken);
+        }
+        assert!(self.buffers.windows(2).all(|two| two[0] == two[1]), "the versions differ");
+        self.rounds += 1;
+    }
+}
+
+/// The best time of each version. Rounds go on while one of them got better in the last few rounds.
 fn race<F: Copy, const N: usize>(
     rounds: usize,
     start: &[u64],
     versions: [F; N],
     work: impl Fn(F, usize, &mut [u64]),
 ) -> [f64; N] {
-    let mut buffers: [Vec<u64>; N] = std::array::from_fn(|_| start.to_vec());
-    let mut best = [f64::MAX; N];
-    let (mut round, mut improved) = (0, 0);
-    while round < rounds || (round < improved + 2 * N && round < PATIENCE * rounds) {
-        for (j, buffer) in buffers.iter_mut().enumerate() {
-            let i = (j + round) % N;
-            let begun = clock();
-            work(versions[i], round, buffer);
-            let taken = clock() - begun;
-            if taken < best[i] * (1.0 - NOISE) {
-                improved = round;
-            }
-            best[i] = best[i].min(taken);
-        }
-        assert!(buffers.windows(2).all(|two| two[0] == two[1]), "the versions differ");
-        round += 1;
+    let mut race = Race::new(start, &versions);
+    while race.rounds < rounds || (race.rounds < race.improved + 2 * N && race.rounds < PATIENCE * rounds) {
+        race.round(&work);
     }
-    best
+    race.best.try_into().expect("a time for each version")
+}
+
+/// Brings the best time of a call down, if so many calls take less. One before them is not timed: what it reads is then near for all.
+fn sample(best: &mut f64, calls: usize, call: impl Fn()) {
+    call();
+    *best = best.min(timed(|| (0..calls).for_each(|_| call())) / calls as f64);
 }
 
 // What the versions of an operation have in common. A call goes through a pointer, so that no version is joined with its caller.
@@ -302,24 +396,114 @@ impl<const T: usize> Case<T> {
         Times::of(&best, TREE_CALLS)
     }
 
-    /// A push of `count` records; the time is of the whole push.
+    /// Seeded records at different places, which rise or are shuffled.
+    fn records(&self, count: usize, rising: bool, draw: &mut impl FnMut() -> u64) -> Vec<u64> {
+        let mut places: Vec<u64> = (0..self.sizes.leaves as u64).collect();
+        for i in 0..count {
+            places.swap(i, i + draw() as usize % (self.sizes.leaves - i));
+        }
+        places.truncate(count);
+        if rising {
+            places.sort();
+        }
+        let mut records: Vec<u64> = (0..count * RECORD).map(|_| draw()).collect();
+        for (record, place) in records.chunks_exact_mut(RECORD).zip(places) {
+            record[0] = place;
+        }
+        records
+    }
+
+    /// One version's push of such records.
+    fn push_once(&self, version: Push, store: &mut [u64], records: &[u64]) {
+        let (set, mut made) = (self.set(), 0);
+        assert_eq!(version(black_box(&set), store, records, &mut made), 0);
+        assert_eq!(made, set.height * (records.len() / RECORD) as u64);
+    }
+
+    /// A push of `count` shuffled records; the time is of the whole push.
     pub fn push(&self, rounds: usize, store: &[u64], count: usize, draw: &mut impl FnMut() -> u64) -> Times {
-        let mut list = || {
-            let mut records: Vec<u64> = (0..count * RECORD).map(|_| draw()).collect();
-            records
-                .iter_mut()
-                .step_by(RECORD)
-                .for_each(|place| *place %= self.sizes.leaves as u64);
-            records
-        };
-        let (lists, set) = ([list(), list()], self.set());
-        let versions: [Push; 3] = [proved::push, trees::push::<Tuned, T>, trees::push::<Plain, T>];
+        let lists = [(); 2].map(|()| self.records(count, false, draw));
+        let versions: [Push; 3] = [proved::push, trees::push::<Tuned, T, true>, trees::push::<Plain, T, true>];
         let best = race(rounds, store, versions, |version, round, store| {
-            let mut made = 0;
-            assert_eq!(version(black_box(&set), store, &lists[round % 2], &mut made), 0);
-            assert_eq!(made, set.height * count as u64);
+            self.push_once(version, store, &lists[round % 2]);
         });
         Times::of(&best, 1)
+    }
+
+    /// A push of `count` records, and in the same rounds the parts that its test for a place that stands twice is made of. Where it is
+    /// `brief`, the tuned version without this test is left out.
+    pub fn tested_push(
+        &self,
+        rounds: usize,
+        store: &[u64],
+        (count, rising): (usize, bool),
+        brief: bool,
+        draw: &mut impl FnMut() -> u64,
+    ) -> Tested {
+        let lists = [(); 2].map(|()| self.records(count, rising, draw));
+        let (set, leaves, list) = (self.set(), self.sizes.leaves, &lists[0]);
+        let mut twice = list.clone();
+        twice[(count - 1) * RECORD] = list[0];
+        let versions: [Push; 3] = [proved::push, trees::push::<Tuned, T, true>, trees::push::<Tuned, T, false>];
+        let mut race = Race::new(store, if brief { &versions[..2] } else { &versions });
+        let mut passes = [f64::MAX; 2];
+        let mut search = repeats::is_searched(list).then_some(Search {
+            alone: f64::MAX,
+            refused: [f64::MAX; 2],
+        });
+        let calls = SAMPLE_RECORDS.div_ceil(count);
+        for _ in 0..rounds {
+            race.round(|version, round, store| self.push_once(version, store, &lists[round % 2]));
+            for _ in 0..SAMPLES {
+                for (best, with) in passes.iter_mut().zip([false, true]) {
+                    sample(best, calls, || {
+                        assert!(repeats::first_pass(black_box(&set), list, leaves, with))
+                    });
+                }
+                if let Some(search) = &mut search {
+                    sample(&mut search.alone, calls, || {
+                        assert!(repeats::search(black_box(&set), list, leaves))
+                    });
+                    self.refused_pushes(&mut search.refused, &mut race.buffers[0], &twice);
+                }
+            }
+        }
+        Tested {
+            proved: race.best[0],
+            tuned: race.best[1],
+            untested: race.best.get(2).copied(),
+            passes,
+            search,
+        }
+    }
+
+    /// Pushes of a list that has a place twice: one that is refused before the search, for the last number of the store, and one that is
+    /// refused by it. The store stays as it is.
+    fn refused_pushes(&self, best: &mut [f64; 2], store: &mut [u64], twice: &[u64]) {
+        let (set, last) = (self.set(), store.len() - 1);
+        let kept = store[last];
+        for (best, (number, refusal)) in best.iter_mut().zip([(u64::MAX, NOT_A_WORD), (kept, REPEATED)]) {
+            store[last] = number;
+            let taken = timed(|| assert_eq!(proved::push(black_box(&set), store, twice, &mut 0), refusal));
+            *best = best.min(taken);
+        }
+    }
+
+    /// Every version refuses a list of so many records that has a place twice, and leaves the store.
+    pub fn assert_repeats_refused(&self, store: &[u64], count: usize, draw: &mut impl FnMut() -> u64) {
+        let versions: [Push; 3] = [proved::push, trees::push::<Tuned, T, true>, trees::push::<Plain, T, true>];
+        let mut left = store.to_vec();
+        for rising in [false, true] {
+            let mut records = self.records(count, rising, draw);
+            let last = (count - 1) * RECORD;
+            for from in [0, count / 2 - 1, count - 2] {
+                records[last] = records[from * RECORD];
+                for version in versions {
+                    assert_eq!(version(&self.set(), &mut left, &records, &mut 0), REPEATED);
+                    assert!(left == store, "a refused push wrote to the store");
+                }
+            }
+        }
     }
 
     /// The message blocks of a file.

@@ -1,5 +1,5 @@
 //! What the program prints: Markdown tables, and the machine.
-use crate::measure::Times;
+use crate::measure::{Tested, Times};
 use crate::trees::Sizes;
 use std::fs::read_to_string;
 
@@ -37,6 +37,16 @@ pub struct Absorption {
     pub target: Option<f64>,
 }
 
+/// A push and its test for a place that stands twice.
+pub struct Pushed {
+    pub leaves: usize,
+    pub records: usize,
+    pub rising: bool,
+    pub times: Tested,
+    /// Whether the test has targets here.
+    pub aimed: bool,
+}
+
 /// What there is to choose from, at about the same number of leaves.
 pub struct Choice {
     pub t: usize,
@@ -49,9 +59,17 @@ pub struct Choice {
 }
 
 const FLOOR_TARGET: f64 = 1.05;
+/// The most that the test for a place that stands twice is to be, in per cent of the push, and in nanoseconds a record where there are
+/// fewer places than this.
+const SHARE_TARGET: f64 = 5.0;
+const RECORD_TARGET: f64 = 20.0;
+const RECORD_PLACES: usize = 1 << 20;
 
-/// Three digits and a unit.
+/// Three digits and a unit. A difference of two times may be below 0.
 pub fn time(seconds: f64) -> String {
+    if seconds < 0.0 {
+        return format!("-{}", time(-seconds));
+    }
     let (value, unit) = match seconds {
         s if s < 0.9995e-6 => (s * 1e9, "ns"),
         s if s < 0.9995e-3 => (s * 1e6, "µs"),
@@ -155,6 +173,48 @@ pub fn print_absorptions(absorptions: &[Absorption]) {
         .iter()
         .filter_map(|a| Some((a.leaf / a.floor, a.target?)))
         .collect();
+    print_met(&aimed);
+}
+
+pub fn print_pushes(pushes: &[Pushed]) {
+    println!(
+        "| leaves | records | places | push | proved/tuned | tuned, with the test/without | the test | of the push | target | a record \
+         | target | first pass and search, a record | the search, in whole calls |"
+    );
+    println!("|--:|--:|---|--:|--:|--:|--:|--:|---|--:|---|--:|--:|");
+    let mut aimed = vec![];
+    for p in pushes {
+        let (times, test) = (p.times, p.times.test());
+        let (share, record) = (100.0 * test / times.proved, 1e9 * test / p.records as f64);
+        let mut target = |value: f64, most: f64, unit: &str, is_aimed: bool| {
+            if !is_aimed {
+                return String::new();
+            }
+            aimed.push((value, most));
+            let missed = if value <= most { "" } else { " **missed**" };
+            format!("≤ {most} {unit}{missed}")
+        };
+        println!(
+            "| {} | {} | {} | {} | {:.3} | {} | {} | {share:.3} % | {} | {record:.2} ns | {} | {} | {} |",
+            grouped(p.leaves),
+            grouped(p.records),
+            match p.rising {
+                _ if p.records == 1 => "",
+                true => "rising",
+                false => "shuffled",
+            },
+            time(times.proved),
+            times.proved / times.tuned,
+            times
+                .untested
+                .map_or(String::new(), |untested| format!("{:.3}", times.tuned / untested)),
+            time(test),
+            target(share, SHARE_TARGET, "%", p.aimed),
+            target(record, RECORD_TARGET, "ns", p.aimed && p.leaves < RECORD_PLACES),
+            time(times.most() / p.records as f64),
+            times.search.map_or(String::new(), |search| time(search.shown())),
+        );
+    }
     print_met(&aimed);
 }
 

@@ -1,5 +1,6 @@
 //! The library's entries in Rust, over either version of the arithmetic. Each does what the proved entry does: it validates the set,
-//! tests lengths, places and words, and leaves every buffer as it was where it refuses. T is the width, known to the compiler.
+//! tests lengths, places and words, and that no place of a push stands twice, and leaves every buffer as it was where it refuses. T is
+//! the width, known to the compiler.
 use crate::poseidon2::{add, residue, Version, P};
 
 /// A parameter set, as it is handed in.
@@ -18,8 +19,13 @@ pub const REJECTED: u8 = 255;
 pub const BAD_LENGTH: u8 = 10;
 pub const BAD_PLACE: u8 = 11;
 pub const NOT_A_WORD: u8 = 12;
+pub const REPEATED: u8 = 17;
 /// The numbers of a record: a place and six words.
 pub const RECORD: usize = 7;
+/// The most records whose places are compared with each other.
+pub const FEW: usize = 128;
+/// The places that a map has a bit for.
+const WINDOW: u64 = 1 << 20;
 
 /// Four numbers a turn, as the library does it, and then the last few.
 fn all_words(numbers: &[u64]) -> bool {
@@ -359,8 +365,62 @@ pub fn replace<V: Version, const T: usize>(set: &Set, store: &mut [u64], place: 
     DONE
 }
 
+/// The places of records.
+pub fn places(records: &[u64]) -> impl ExactSizeIterator<Item = u64> + '_ {
+    records.chunks_exact(RECORD).map(|record| record[0])
+}
+
+/// Whether each place is above the one before it.
+pub fn rise(records: &[u64]) -> bool {
+    places(records).is_sorted_by(|a, b| a < b)
+}
+
+/// Four numbers a turn, as the library does it, and then the last few.
+fn is_among(numbers: &[u64], number: u64) -> bool {
+    let mut fours = numbers.chunks_exact(4);
+    fours.any(|four| four.contains(&number)) || fours.remainder().contains(&number)
+}
+
+/// Whether one of at most `FEW` places stands twice: each is compared with those before it.
+fn few_repeat(records: &[u64]) -> bool {
+    let mut kept = [0; FEW];
+    places(records).enumerate().any(|(n, place)| {
+        kept[n] = place;
+        is_among(&kept[..n], place)
+    })
+}
+
+/// Whether a place from `base` on stands twice, of those that a map has a bit for.
+fn window_repeats(records: &[u64], base: u64) -> bool {
+    let mut map = [0u64; WINDOW as usize / 64];
+    places(records).any(|place| {
+        let at = place.wrapping_sub(base);
+        if at >= WINDOW {
+            return false;
+        }
+        let (word, bit) = (&mut map[at as usize / 64], 1 << (at % 64));
+        let again = *word & bit != 0;
+        *word |= bit;
+        again
+    })
+}
+
+/// Whether a place stands twice, by one of the library's three ways: places that rise are different; few are compared; and of many
+/// there is a map, a window of places after another.
 #[inline(never)]
-pub fn push<V: Version, const T: usize>(set: &Set, store: &mut [u64], records: &[u64], made: &mut u64) -> u8 {
+fn repeats(records: &[u64], leaves: u64) -> bool {
+    if rise(records) {
+        return false;
+    }
+    if places(records).len() <= FEW {
+        return few_repeat(records);
+    }
+    (0..leaves.div_ceil(WINDOW)).any(|window| window_repeats(records, window * WINDOW))
+}
+
+/// A push that asks whether a place stands twice, or one that does not.
+#[inline(never)]
+pub fn push<V: Version, const T: usize, const TESTED: bool>(set: &Set, store: &mut [u64], records: &[u64], made: &mut u64) -> u8 {
     let number = validate::<V>(set);
     if number != DONE {
         return number;
@@ -369,7 +429,7 @@ pub fn push<V: Version, const T: usize>(set: &Set, store: &mut [u64], records: &
     if store.len() != sizes.store_words() || records.len() % RECORD != 0 || records.len() / RECORD > 1 << 32 {
         return BAD_LENGTH;
     }
-    if records.chunks_exact(RECORD).any(|record| record[0] >= sizes.leaves as u64) {
+    if places(records).any(|place| place >= sizes.leaves as u64) {
         return BAD_PLACE;
     }
     if !records
@@ -378,6 +438,9 @@ pub fn push<V: Version, const T: usize>(set: &Set, store: &mut [u64], records: &
         || !all_words(store)
     {
         return NOT_A_WORD;
+    }
+    if TESTED && repeats(records, sizes.leaves as u64) {
+        return REPEATED;
     }
     let rounds = Rounds::of(set);
     *made = 0;

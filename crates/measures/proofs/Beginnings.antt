@@ -1,7 +1,6 @@
 -- A tally at the beginning, for an accepted set, meets what the passes presume.
-use mathlib.Core.Path.{_≡_}
-use mathlib.Core.Bool.{Bool, true, false, _&&_, false≢true}
-use Prim.Native.Nat.{ℕ, _≤_}
+use mathlib.Core.Bool.{true, false, _&&_, false≢true}
+use Prim.Native.Nat.{ℕ}
 use native.Mathlib.Omega.{arith}
 use lib.Dec.{lit<, eqb, leb}
 use lib.ListN.{replicate, length-replicate}

@@ -1,22 +1,13 @@
 // The passes of a push over its records, as `push_listed` makes them, without the test of the store and without writing.
 ghost use mathlib.Core.Path.{_≡_};
-ghost use mathlib.Core.Bool.{_&&_};
 ghost use Prim.Native.Nat.{_/_};
 ghost use lib.ListN.{length};
 ghost use Rattle.parameters.specs.ParameterSet.{holding};
 ghost use Rattle.pushes.specs.Listed.{listed};
 ghost use Rattle.measures.specs.Pushed.{beginning, found, firstPass, searching, Pushable};
 use pushes::passes;
+use pushes::steps::both;
 use pushes::tally::Tally;
-
-fn both(a: bool, b: bool) -> bool
-    ensures { λ r. ⌜ r ≡ (a && b) ⌝ }
-{
-    if a {
-        return b;
-    }
-    false
-}
 
 fn beginning(places: u64, rising: bool, few: bool) -> Tally
     ensures { λ r. ⌜ r ≡ beginning places rising few ⌝ }

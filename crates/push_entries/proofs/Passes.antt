@@ -1,7 +1,7 @@
 -- The passes together give what `Pushes` says, whatever the set, the store and the records.
-use mathlib.Core.Path.{_≡_, refl, sym, ap, ap₂, subst, _∙_}
+use mathlib.Core.Path.{_≡_, refl, sym, ap, subst, _∙_}
 use mathlib.Core.Logic.{_≢_, _⊎_, inl, inr}
-use mathlib.Core.Bool.{Bool, true, false, cond, not, _&&_, false≢true}
+use mathlib.Core.Bool.{Bool, true, false, not, _&&_, false≢true}
 use mathlib.Core.List.{List, [], _∷_, _++_, append-assoc}
 use Prim.Native.Nat.{ℕ, zero, suc, _+_, _*_, _^_, _≤_, _<_}
 use native.Mathlib.Omega.{arith}
@@ -17,7 +17,7 @@ use Rattle.parameters.specs.declared.ParameterSet.{ParameterSet}
 use Rattle.parameters.specs.ParameterSet.{primeOf, setRefusals}
 use Rattle.parameters.proofs.Accepted.{set-numbered}
 use Rattle.merkle.specs.Replacement.{Counted, replaceFrom, pushFrom, push}
-use Rattle.repeats.specs.Repeats.{repeats, member}
+use Rattle.repeats.specs.Repeats.{repeats}
 use Rattle.repeats.specs.Maps.{mapWords}
 use Rattle.repeats.proofs.Members.{member-none}
 use Rattle.trees.specs.Shapes.{counted}

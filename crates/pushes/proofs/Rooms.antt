@@ -12,7 +12,7 @@ use base.Logic.{ent, sep, ex, via, guardI}
 use base.Fml.{Lft, GName, Fml, fat, froom, flent, fdead, fsep}
 use prog.Wp.{Heap, Env}
 use ghost.Atoms.{Atoms, sem}
-use types.Kit.{Given, Item, ‵, _⊛_, some, later, _$_, _∵_, !, qed, by, move, keep, use1, use3, drop, split, pick, rewrite, fsplit, fjoin, fpick, fpack, await, updating, now as at-once, show, done}
+use types.Kit.{Given, Item, ‵, _⊛_, some, later, _$_, _∵_, !, qed, move, keep, use1, use3, drop, split, pick, rewrite, fsplit, fjoin, fpick, fpack, await, updating, now as at-once, show, done}
 use types.Run.{Opd, forget}
 use types.SemTy.{Arr}
 use types.Share.{arr-parts}

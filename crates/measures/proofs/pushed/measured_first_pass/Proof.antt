@@ -1,10 +1,7 @@
-use mathlib.Core.Path.{_≡_, sym, ap, subst, _∙_}
-use Prim.Native.Nat.{ℕ, _/_}
-use lib.ListN.{length, replicate, length-replicate}
+use mathlib.Core.Path.{sym, ap, _∙_}
+use Prim.Native.Nat.{ℕ}
+use lib.ListN.{length-replicate}
 use borrow.Author.Needs.{needs}
-use Rattle.pushes.specs.declared.tally.Tally.{Tally}
-use Rattle.pushes.specs.Listed.{listed}
-use Rattle.pushes.specs.Passes.{pass, keepable, eachOf, Going}
 use Rattle.measures.specs.Pushed.{beginning, found, firstPass}
 use Rattle.measures.proofs.Beginnings.{first-asks}
 use Rattle.measures.proofs.pushed.measured_first_pass.Statement.{statement}

@@ -1,13 +1,10 @@
 -- The loop keeps what that of `search` keeps, over the records of the list.
-use mathlib.Core.Path.{_≡_, refl, sym, ap, subst, _∙_}
-use Prim.Native.Nat.{ℕ, _-_, _/_, _<_}
+use mathlib.Core.Path.{sym}
+use Prim.Native.Nat.{ℕ, _-_}
 use native.Mathlib.Omega.{arith}
-use lib.ListN.{length, replicate, length-replicate}
+use lib.ListN.{length-replicate}
 use borrow.Author.Needs.{needs}
-use Rattle.repeats.specs.Maps.{mapWords}
 use Rattle.pushes.specs.Listed.{listed}
-use Rattle.pushes.specs.Passes.{Going}
-use Rattle.pushes.proofs.Listed.{listed-count}
 use Rattle.pushes.proofs.Searching.{Reached, search-begins, search-asks, search-next, search-ends}
 use Rattle.pushes.proofs.passes.search_listed.Statement.{statement}
 use Rattle.pushes.proofs.passes.search_listed.Tie as tie
