@@ -1,7 +1,7 @@
 -- The passes together give what `Pushes` says, whatever the set, the store and the records.
 use mathlib.Core.Path.{_≡_, refl, sym, ap, subst, _∙_}
 use mathlib.Core.Logic.{_≢_, _⊎_, inl, inr}
-use mathlib.Core.Bool.{Bool, true, false, not, _&&_, false≢true}
+use mathlib.Core.Bool.{Bool, true, false, not, _&&_, false≢true, and-false, and-comm}
 use mathlib.Core.List.{List, [], _∷_, _++_, append-assoc}
 use Prim.Native.Nat.{ℕ, zero, suc, _+_, _*_, _^_, _≤_, _<_}
 use native.Mathlib.Omega.{arith}
@@ -34,17 +34,10 @@ use Rattle.pushes.proofs.Searching.{search-none, search-finds, search-only}
 use Rattle.push_entries.specs.Ends.{earlyRefusals, begun, beginOf, finishOf}
 use Rattle.push_entries.proofs.Early.{early-numbered}
 
-and-comm : (a b : Bool) → (a && b) ≡ (b && a)
-and-comm true true = refl
-and-comm true false = refl
-and-comm false true = refl
-and-comm false false = refl
-
 -- ---- tallies that allow no write
 
-and-false : (a b : Bool) → b ≡ false → (a && b) ≡ false
-and-false true b e = e
-and-false false b e = refl
+and-fails : (a b : Bool) → b ≡ false → (a && b) ≡ false
+and-fails a b e = ap (λ (c : Bool). a && c) e ∙ and-false a
 
 -- a refusal up to 12
 module _ (t : Tally) where
@@ -54,11 +47,11 @@ module _ (t : Tally) where
 
   unclear-places : t .placed ≡ false → isClear t ≡ false
   unfolding isClear
-  unclear-places e = and-false (eqb (t .number) 0) (t .placed && t .words) (ap (λ (b : Bool). b && t .words) e)
+  unclear-places e = and-fails (eqb (t .number) 0) (t .placed && t .words) (ap (λ (b : Bool). b && t .words) e)
 
   unclear-words : t .words ≡ false → isClear t ≡ false
   unfolding isClear
-  unclear-words e = and-false (eqb (t .number) 0) (t .placed && t .words) (and-false (t .placed) (t .words) e)
+  unclear-words e = and-fails (eqb (t .number) 0) (t .placed && t .words) (and-fails (t .placed) (t .words) e)
 
   -- then no search is wanted
   unwanted : isClear t ≡ false → wanted t ≡ false
@@ -72,7 +65,7 @@ module _ (t : Tally) where
   no-write : (q : ℕ) → Stopped → mayWrite t q ≡ false
   unfolding mayWrite
   no-write q (inl e) = ap (λ (b : Bool). b && (t .distinct && ltb q (t .places))) e
-  no-write q (inr e) = and-false (isClear t) (t .distinct && ltb q (t .places)) (ap (λ (b : Bool). b && ltb q (t .places)) e)
+  no-write q (inr e) = and-fails (isClear t) (t .distinct && ltb q (t .places)) (ap (λ (b : Bool). b && ltb q (t .places)) e)
 
 module _ (s : ParameterSet) where
   write-stays : (r : Record) (u : Pass) → mayWrite (u .tally) (r .place) ≡ false → stepOf s 1 r u ≡ u

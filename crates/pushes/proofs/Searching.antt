@@ -1,7 +1,7 @@
 -- The search: after the tests and the windows together, the tally shows whether a place stands twice.
 use mathlib.Core.Path.{_≡_, refl, sym, ap, ap₂, subst, _∙_}
-use mathlib.Core.Bool.{Bool, true, false, cond, not, _&&_, false≢true, true≢false}
-use mathlib.Core.List.{List, [], _∷_, _++_, append-assoc}
+use mathlib.Core.Bool.{Bool, true, false, cond, not, _&&_, false≢true, true≢false, and-false}
+use mathlib.Core.List.{List, [], _∷_, _++_, append-assoc, append-nil}
 use Prim.Native.Nat.{ℕ, zero, suc, _+_, _*_, _-_, _^_, _≤_, _<_}
 use native.Mathlib.Decide.{decLt}
 use native.Mathlib.Omega.{arith}
@@ -25,6 +25,13 @@ use Rattle.pushes.proofs.Tests.{Seen}
 abbrev zeros : List ℕ
 zeros = replicate mapWords 0
 
+-- What is found of places ps: one of them, and then one stands twice; or none, and then none of those that were looked for stands twice.
+record Found (ps : List ℕ) (LookedFor : ℕ → Type 0) (t u : Tally) : Type 0 where
+  pub distinct : Bool
+  pub is : u ≡ finding t distinct
+  pub sound : distinct ≡ false → repeats ps ≡ true
+  pub complete : distinct ≡ true → (q : ℕ) → LookedFor q → times q ps ≤ 1
+
 -- ---- one window
 
 module _ (s : ParameterSet) (w : ℕ) where
@@ -41,18 +48,11 @@ module _ (s : ParameterSet) (w : ℕ) where
   found-stays (r ∷ rs) t map e = ap (eachOf s (2 + w) rs) (step-notes r (pass t map) ∙ stays) ∙ found-stays rs t map e
     where
       stays : noteOf (w * window) (r .place) (pass t map) ≡ pass t map
-      stays = ap (λ (b : Bool). cond b (found t (note (w * window) (r .place) map)) (pass t map)) (ap (λ (b : Bool). eqb (t .number) 0 && b) e ∙ none (eqb (t .number) 0))
-        where
-          none : (b : Bool) → (b && false) ≡ false
-          none true = refl
-          none false = refl
+      stays = ap (λ (b : Bool). cond b (found t (note (w * window) (r .place) map)) (pass t map)) (ap (λ (b : Bool). eqb (t .number) 0 && b) e ∙ and-false (eqb (t .number) 0))
 
-  -- after places ps: a place was found, and one stands twice; or none of the window stands twice
-  record Passed (ps : List ℕ) (t : Tally) (u : Tally) : Type 0 where
-    pub distinct : Bool
-    pub is : u ≡ finding t distinct
-    pub sound : distinct ≡ false → repeats ps ≡ true
-    pub complete : distinct ≡ true → (q : ℕ) → w * window ≤ q → q - w * window < window → times q ps ≤ 1
+  -- its pass looks for the places that the map has a bit for
+  abbrev Passed : List ℕ → Tally → Tally → Type 0
+  Passed ps t u = Found ps (λ q. (w * window ≤ q) × (q - w * window < window)) t u
 
   window-pass : (rs : List Record) (ps : List ℕ) (t : Tally) (map : List ℕ) → t .number ≡ 0 → t .distinct ≡ true → Noted (w * window) ps map
       → Passed (ps ++ placesOf rs) t (eachOf s (2 + w) rs (pass t map) .tally)
@@ -61,12 +61,8 @@ module _ (s : ParameterSet) (w : ℕ) where
     distinct = true;
     is = λ i. finding t (f i);
     sound = λ g. absurd (true≢false g);
-    complete = λ g q a b. subst (λ (xs : List ℕ). times q xs ≤ 1) (sym (append-none ps)) (noted-once (w * window) ps map N q a b);
+    complete = λ g q b. subst (λ (xs : List ℕ). times q xs ≤ 1) (sym (append-nil ps)) (noted-once (w * window) ps map N q (b .0) (b .1));
   }
-    where
-      append-none : (xs : List ℕ) → xs ++ [] ≡ xs
-      append-none [] = refl
-      append-none (x ∷ xs) = ap (λ (ys : List ℕ). x ∷ ys) (append-none xs)
   window-pass (r ∷ rs) ps t map e f N = go (note (w * window) q map .again) refl (window-pass rs)
     where
       q : ℕ
@@ -106,14 +102,11 @@ module _ (s : ParameterSet) (w : ℕ) where
 -- ---- all windows
 
 -- the first n of them
-record Found (rs : List Record) (n : ℕ) (t u : Tally) : Type 0 where
-  pub distinct : Bool
-  pub is : u ≡ finding t distinct
-  pub sound : distinct ≡ false → repeats (placesOf rs) ≡ true
-  pub complete : distinct ≡ true → (q : ℕ) → q < n * window → times q (placesOf rs) ≤ 1
+abbrev FirstFound : List Record → ℕ → Tally → Tally → Type 0
+FirstFound rs n t u = Found (placesOf rs) (λ q. q < n * window) t u
 
 module _ (s : ParameterSet) (rs : List Record) (t : Tally) (unrefused : t .number ≡ 0) (open-yet : t .distinct ≡ true) where
-  windows-find : (n : ℕ) → Found rs n t (windowsOf s rs n t)
+  windows-find : (n : ℕ) → FirstFound rs n t (windowsOf s rs n t)
   unfolding windowsOf
   windows-find zero = record { distinct = true; is = λ i. finding t (open-yet i); sound = λ e. absurd (true≢false e); complete = λ e q b. absurd (omega arith) }
   windows-find (suc n) =
@@ -121,7 +114,7 @@ module _ (s : ParameterSet) (rs : List Record) (t : Tally) (unrefused : t .numbe
       go (F .distinct) (F .is) (F .sound) (F .complete)
     where
       go : (d : Bool) → windowsOf s rs n t ≡ finding t d → (d ≡ false → repeats (placesOf rs) ≡ true) → (d ≡ true → (q : ℕ) → q < n * window → times q (placesOf rs) ≤ 1)
-          → Found rs (suc n) t (eachOf s (2 + n) rs (pass (windowsOf s rs n t) zeros) .tally)
+          → FirstFound rs (suc n) t (eachOf s (2 + n) rs (pass (windowsOf s rs n t) zeros) .tally)
       go false e sound complete = record {
         distinct = false;
         is = ap (λ (u : Tally). eachOf s (2 + n) rs (pass u zeros) .tally) e ∙ ap (λ (u : Pass). u .tally) (found-stays s n rs (finding t false) zeros refl);
@@ -137,10 +130,10 @@ module _ (s : ParameterSet) (rs : List Record) (t : Tally) (unrefused : t .numbe
             complete = λ f q b. by-window f q b (P .complete f) (decLt q (n * window));
           }
         where
-          by-window : {d : Bool} → d ≡ true → (q : ℕ) → q < suc n * window → ((q : ℕ) → n * window ≤ q → q - n * window < window → times q (placesOf rs) ≤ 1)
+          by-window : {d : Bool} → d ≡ true → (q : ℕ) → q < suc n * window → ((q : ℕ) → (n * window ≤ q) × (q - n * window < window) → times q (placesOf rs) ≤ 1)
               → Dec (q < n * window) → times q (placesOf rs) ≤ 1
           by-window f q b here (yes c) = complete refl q c
-          by-window f q b here (no c) = here q (omega arith) (omega (arith, b))
+          by-window f q b here (no c) = here q (omega arith, omega (arith, b))
 
 -- a place that is not below n stands nowhere
 below-times : (n : ℕ) (rs : List Record) → placesBelow n rs ≡ true → (q : ℕ) → n ≤ q → times q (placesOf rs) ≡ 0
@@ -152,7 +145,7 @@ below-times n (r ∷ rs) b q h =
     ∙ below-times n rs (right-true (ltb (r .place) n) (placesBelow n rs) b) q h
 
 -- with windows for every place, what they find is whether a place stands twice
-found-all : (rs : List Record) (n m : ℕ) (t u : Tally) → Found rs m t u → placesBelow n rs ≡ true → n ≤ m * window → u ≡ finding t (not (repeats (placesOf rs)))
+found-all : (rs : List Record) (n m : ℕ) (t u : Tally) → FirstFound rs m t u → placesBelow n rs ≡ true → n ≤ m * window → u ≡ finding t (not (repeats (placesOf rs)))
 found-all rs n m t u F b h = F .is ∙ ap (finding t) (go (F .distinct) (F .sound) (F .complete))
   where
     go : (d : Bool) → (d ≡ false → repeats (placesOf rs) ≡ true) → (d ≡ true → (q : ℕ) → q < m * window → times q (placesOf rs) ≤ 1) → d ≡ not (repeats (placesOf rs))

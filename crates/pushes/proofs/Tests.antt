@@ -1,7 +1,7 @@
 -- The first pass: what the tally shows after it of the places and the leaves.
 use mathlib.Core.Path.{_≡_, refl, sym, ap, ap₂, subst, _∙_}
-use mathlib.Core.Bool.{Bool, true, false, cond, not, _&&_, _||_}
-use mathlib.Core.List.{List, [], _∷_, _++_, append-assoc}
+use mathlib.Core.Bool.{Bool, true, false, cond, not, _&&_, _||_, and-true, and-assoc}
+use mathlib.Core.List.{List, [], _∷_, _++_, append-assoc, append-nil}
 use Prim.Native.Nat.{ℕ, _+_, _≤_, _<_}
 use native.Mathlib.Numerals.{add-one}
 use native.Mathlib.Omega.{arith}
@@ -22,14 +22,6 @@ use Rattle.pushes.specs.Passes.{Pass, pass, keepable, aboveOf, freshOf, 
 
 -- ---- what does not hang on the places
 
-and-assoc : (a b c : Bool) → ((a && b) && c) ≡ (a && (b && c))
-and-assoc true b c = refl
-and-assoc false b c = refl
-
-and-end : (a : Bool) → (a && true) ≡ a
-and-end true = refl
-and-end false = refl
-
 -- a record tested
 pub test-is : (s : ParameterSet) (r : Record) (t : Tally) (seen : List ℕ) → t .number ≡ 0 → stepOf s 0 r (pass t seen) ≡ tested s r t seen
 unfolding stepOf testOf
@@ -46,7 +38,7 @@ pub record Tested (s : ParameterSet) (rs : List Record) (t t′ : Tally) : Type 
 
 pub tested-all : (s : ParameterSet) (rs : List Record) (t : Tally) (seen : List ℕ) → t .number ≡ 0 → Tested s rs t (eachOf s 0 rs (pass t seen) .tally)
 unfolding eachOf placesBelow usedWords allWords
-tested-all s [] t seen e = record { number = e; places = refl; placed = sym (and-end (t .placed)); words = sym (and-end (t .words)); few = refl; made = refl }
+tested-all s [] t seen e = record { number = e; places = refl; placed = sym (and-true (t .placed)); words = sym (and-true (t .words)); few = refl; made = refl }
 tested-all s (r ∷ rs) t seen e =
     subst (λ (u : Pass). Tested s (r ∷ rs) t (eachOf s 0 rs u .tally)) (sym (test-is s r t seen e)) (more (tested-all s rs (tested s r t seen .tally) (tested s r t seen .buffer) refl))
   where
@@ -169,11 +161,7 @@ module _ (s : ParameterSet) (ps : List ℕ) (r : Record) (t : Tally) (seen : Lis
 pub seen-all : (s : ParameterSet) (rs : List Record) (ps : List ℕ) (t : Tally) (seen : List ℕ) → t .number ≡ 0 → Seen ps t seen → placesBelow (t .places) rs ≡ true
     → (t .few ≡ true → length ps + length rs ≤ keepable) → Seen (ps ++ placesOf rs) (eachOf s 0 rs (pass t seen) .tally) (eachOf s 0 rs (pass t seen) .buffer)
 unfolding eachOf placesOf placesBelow
-seen-all s [] ps t seen e S b m = subst (λ (xs : List ℕ). Seen xs t seen) (sym (append-none ps)) S
-  where
-    append-none : (xs : List ℕ) → xs ++ [] ≡ xs
-    append-none [] = refl
-    append-none (x ∷ xs) = ap (λ (ys : List ℕ). x ∷ ys) (append-none xs)
+seen-all s [] ps t seen e S b m = subst (λ (xs : List ℕ). Seen xs t seen) (sym (append-nil ps)) S
 seen-all s (r ∷ rs) ps t seen e S b m =
     let u : Pass = tested s r t seen in
     let inside = ltb-true (r .place) (t .places) (left-true (ltb (r .place) (t .places)) (placesBelow (t .places) rs) b) in

@@ -1,6 +1,6 @@
 -- Numbers of a list, how often one stands in it, and lists in which none stands twice.
 use mathlib.Core.Path.{_≡_, refl, sym, ap, _∙_}
-use mathlib.Core.Bool.{Bool, true, false, cond, _||_, false≢true}
+use mathlib.Core.Bool.{Bool, true, false, cond, _||_, false≢true, or-true, or-assoc}
 use mathlib.Core.List.{List, [], _∷_, _++_}
 use Prim.Native.Nat.{ℕ, suc, _+_, _≤_, _<_}
 use native.Mathlib.Omega.{arith}
@@ -12,10 +12,6 @@ use Rattle.modular.proofs.Undecided.{Undecided}
 use Rattle.repeats.specs.Repeats.{member, repeats}
 
 -- ---- tests
-
-or-assoc : (a b c : Bool) → ((a || b) || c) ≡ (a || (b || c))
-or-assoc true b c = refl
-or-assoc false b c = refl
 
 eqb-sym : (x y : ℕ) → eqb x y ≡ eqb y x
 eqb-sym x y = go (eqb y x) refl
@@ -83,10 +79,6 @@ repeats-last (x ∷ xs) q =
 
 pub repeats-twice : (xs : List ℕ) (q : ℕ) → member q xs ≡ true → repeats (xs ++ (q ∷ [])) ≡ true
 repeats-twice xs q e = repeats-last xs q ∙ ap (λ (b : Bool). repeats xs || b) e ∙ or-true (repeats xs)
-  where
-    or-true : (a : Bool) → (a || true) ≡ true
-    or-true true = refl
-    or-true false = refl
 
 -- and any more
 pub repeats-more : (xs ys : List ℕ) → repeats xs ≡ true → repeats (xs ++ ys) ≡ true

@@ -1,6 +1,6 @@
 -- What `note` does in each of its cases, and what a map shows after any numbers: a number's bit is how often it came.
 use mathlib.Core.Path.{_≡_, refl, sym, ap, _∙_}
-use mathlib.Core.Bool.{Bool, true, false, cond, _&&_, false≢true, true≢false}
+use mathlib.Core.Bool.{Bool, true, false, cond, false≢true, true≢false}
 use mathlib.Core.List.{List, [], _∷_, _++_}
 use Prim.Native.Nat.{ℕ, zero, suc, _+_, _*_, _-_, _/_, _%_, _^_, _≤_, _<_}
 use native.Mathlib.Nat.{one-mul, mod-eq-of-lt, zero-div, zero-mod}
@@ -11,6 +11,7 @@ use lib.ListN.{length, getD, set, replicate, length-set, length-replicate}
 use lib.Pow.{pow-lt}
 use lib.Seq.{getD-set-same, getD-set-other}
 use borrow.Author.Tests.{eq-eqb, ne-eqb, eqb-true, eqb-false, leb-true, ltb-true, le-leb, lt-leb, lt-ltb, le-ltb}
+use Rattle.modular.proofs.Words.{left-true, right-true}
 use Rattle.repeats.specs.Repeats.{repeats}
 use Rattle.repeats.specs.Maps.{window, mapWords, inWindow, bitAt, withBit, noting, note}
 use Rattle.repeats.proofs.Members.{repeats-twice, times, times-none, times-same, times-other, times-member}
@@ -32,15 +33,7 @@ behind base q a b = rw (le-leb base q a, le-ltb (q - base) window b)
 
 inside-is : (base q : ℕ) → inWindow base q ≡ true → (base ≤ q) × (q - base < window)
 unfolding inWindow
-inside-is base q e = (leb-true base q (left (leb base q) (ltb (q - base) window) e), ltb-true (q - base) window (right (leb base q) (ltb (q - base) window) e))
-  where
-    left : (a b : Bool) → (a && b) ≡ true → a ≡ true
-    left true b f = refl
-    left false b f = f
-
-    right : (a b : Bool) → (a && b) ≡ true → b ≡ true
-    right true b f = f
-    right false b f = absurd (false≢true f)
+inside-is base q e = (leb-true base q (left-true (leb base q) (ltb (q - base) window) e), ltb-true (q - base) window (right-true (leb base q) (ltb (q - base) window) e))
 
 -- ---- the cases of `note`, as its code has them
 
