@@ -1,13 +1,15 @@
 -- The consequences, from demand 3 alone: nothing here looks into a call.
-use mathlib.Core.Path.{_≡_, sym, ap, ap₂, _∙_}
-use mathlib.Core.Bool.{not}
-use mathlib.Core.List.{List, [], _∷_}
-use Prim.Native.Nat.{ℕ, _^_}
+use mathlib.Core.Path.{_≡_, refl, sym, ap, ap₂, _∙_}
+use mathlib.Core.Bool.{true, not}
+use mathlib.Core.List.{List, [], _∷_, _++_}
+use Prim.Native.Nat.{ℕ, _^_, _≤_}
+use native.Mathlib.Omega.{arith}
 use lib.Dec.{ltb}
 use lib.ListN.{length, replicate, length-replicate}
 use borrow.Author.Tests.{eq-eqb, le-leb, lt-ltb}
-use Rattle.refusals.specs.Table.{refusal, firstRefusal, Reply, done}
-use Rattle.refusals.proofs.Table.{none, refusal-passes, first-back, reply-done}
+use Rattle.modular.specs.Arithmetic.{allWords}
+use Rattle.refusals.specs.Table.{refusal, firstRefusal, Reply, refused, done}
+use Rattle.refusals.proofs.Table.{none, refusal-applies, refusal-passes, first-back, reply-refused, reply-done, kept-after}
 use Rattle.refusals.proofs.LengthsPlacesAndWords as three
 use Rattle.parameters.specs.ParameterSet.{primeOf}
 use Rattle.parameters.specs.declared.ParameterSet.{ParameterSet}
@@ -15,15 +17,16 @@ use Rattle.repeats.specs.Repeats.{repeats}
 use Rattle.trees.specs.SetTrees.{leafCount, storeWords, openingWords}
 use Rattle.tree_entries.specs.Trees.{has, built, opened, verifyReply}
 use Rattle.trees.proofs.SetTrees.{laws}
-use Rattle.pushes.specs.Records.{placesOf, placesBelow, usedWords}
+use Rattle.pushes.specs.declared.record.Record.{Record}
+use Rattle.pushes.specs.Records.{placesOf, placesBelow, usedWords, SixWords}
 use Rattle.push_entries.specs.Pushes.{fewRecords}
 use Rattle.extraction_entries.specs.Extraction.{Pair, extractRefusals, collision, levelOf, extractReply, extractedFirst, extractedSecond}
 use Rattle.extraction_entries.specs.Statements.{IsRow}
 use Rattle.extraction_entries.proofs.Statements.{written}
-use Rattle.history.specs.LeafBook.{Call, replacement, push, leafAt, bookRefusals, bookCount, bookReply, bookLeaves, bookAnswers}
+use Rattle.history.specs.LeafBook.{Call, replacement, push, leafAt, bookRefusals, bookCount, bookReply, entered, bookAfter, bookLeaves, bookAnswers}
 use Rattle.history.specs.History.{run}
-use Rattle.history.specs.Demand3.{rootOf}
-use Rattle.history.specs.Uses.{RootOfBook, Counts, OwnAccepted, OtherCollides, OnlyAccepted, Uses}
+use Rattle.history.specs.Demand3.{Typed, rootOf}
+use Rattle.history.specs.Uses.{RootOfBook, Counts, RepeatStops, OwnAccepted, OtherCollides, OnlyAccepted, Uses}
 use Rattle.history.proofs.Sets.{begun}
 use Rattle.history.proofs.Replies.{no-row, reply-none}
 use Rattle.history.proofs.Book.{book-numbered}
@@ -47,20 +50,62 @@ counted : (s : ParameterSet) (c : Call) → firstRefusal (bookRefusals s c) ≡ 
 unfolding bookReply
 counted s c z = reply-done (bookRefusals s c) (bookCount s c ∷ []) (book-numbered s c) z
 
+-- a push with nothing against it up to 12
+nothing-early : (s : ParameterSet) (rs : List Record) → length rs ≤ 2 ^ 32 → placesBelow (leafCount s) rs ≡ true → allWords (primeOf s) (usedWords (s .«node_size») rs) ≡ true
+    → firstRefusal (three.all (primeOf s) [] none (not (fewRecords rs)) (not (placesBelow (leafCount s) rs)) (usedWords (s .«node_size») rs)) ≡ 0
+nothing-early s rs few places used =
+    three.at-words (primeOf s) [] none (not (fewRecords rs)) (not (placesBelow (leafCount s) rs)) (usedWords (s .«node_size») rs) no-row (ap not (le-leb (length rs) (2 ^ 32) few)) (ap not places)
+    ∙ three.no-twelve (primeOf s) (usedWords (s .«node_size») rs) used
+
 counts : Counts
 unfolding bookAnswers bookRefusals bookCount
 counts s leaves blank e rs sixes few places used once q leaf long inside wordy =
-    let early = three.at-words (primeOf s) [] none (not (fewRecords rs)) (not (placesBelow (leafCount s) rs)) (usedWords (s .«node_size») rs) no-row (ap not (le-leb (length rs) (2 ^ 32) few)) (ap not places)
-    ∙ three.no-twelve (primeOf s) (usedWords (s .«node_size») rs) used in
     let a : firstRefusal (bookRefusals s (push rs)) ≡ 0 =
     first-back (three.all (primeOf s) [] none (not (fewRecords rs)) (not (placesBelow (leafCount s) rs)) (usedWords (s .«node_size») rs)) (refusal 17 (repeats (placesOf rs)) ∷ [])
-    (three.all-numbered (primeOf s) [] none _ _ _) early
+    (three.all-numbered (primeOf s) [] none _ _ _) (nothing-early s rs few places used)
     ∙ refusal-passes 17 (repeats (placesOf rs)) [] once ∙ no-row in
     let b : firstRefusal (bookRefusals s (replacement q leaf)) ≡ 0 =
     three.at-words (primeOf s) [] none (not (has leaf (s .«node_size»))) (not (ltb q (leafCount s))) leaf no-row (ap not (eq-eqb (length leaf) (s .«node_size») long)) (ap not (lt-ltb q (leafCount s) inside))
     ∙ three.no-twelve (primeOf s) leaf wordy in
     demand3 s leaves blank e (push rs ∷ replacement q leaf ∷ []) (sixes, tt) .answered
     ∙ ap₂ (λ (x y : Reply). x ∷ y ∷ []) (counted s (push rs) a) (counted s (replacement q leaf) b)
+
+-- ---- a place twice in a push
+
+typed-with : (rs : List Record) → SixWords rs → (before after : List Call) → Typed (before ++ after) → Typed (before ++ (push rs ∷ after))
+typed-with rs S [] after T = (S, T)
+typed-with rs S (replacement q leaf ∷ before) after T = typed-with rs S before after T
+typed-with rs S (push qs ∷ before) after T = (T .0, typed-with rs S before after (T .1))
+
+answers-append : (s : ParameterSet) (before after : List Call) → bookAnswers s (before ++ after) ≡ bookAnswers s before ++ bookAnswers s after
+unfolding bookAnswers
+answers-append s [] after = refl
+answers-append s (c ∷ before) after = ap (λ (rest : List Reply). bookReply s c ∷ rest) (answers-append s before after)
+
+-- a call that changes no leaf, wherever it stands
+leaves-without : (s : ParameterSet) (c : Call) → ((book : List ℕ) → bookAfter s c book ≡ book) → (before after : List Call) (book : List ℕ)
+    → bookLeaves s (before ++ (c ∷ after)) book ≡ bookLeaves s (before ++ after) book
+unfolding bookLeaves
+leaves-without s c stays [] after book = ap (bookLeaves s after) (stays book)
+leaves-without s c stays (b ∷ before) after book = leaves-without s c stays before after (bookAfter s b book)
+
+repeat-stops : RepeatStops
+unfolding bookRefusals bookReply bookAnswers bookAfter
+repeat-stops s leaves blank e before after T rs sixes few places used twice =
+    let rows = three.all (primeOf s) [] none (not (fewRecords rs)) (not (placesBelow (leafCount s) rs)) (usedWords (s .«node_size») rs) in
+    let late : firstRefusal (bookRefusals s (push rs)) ≡ 17 =
+    first-back rows (refusal 17 (repeats (placesOf rs)) ∷ []) (three.all-numbered (primeOf s) [] none _ _ _) (nothing-early s rs few places used)
+    ∙ refusal-applies 17 (repeats (placesOf rs)) [] twice in
+    let answer : bookReply s (push rs) ≡ refused 17 =
+    reply-refused (bookRefusals s (push rs)) (bookCount s (push rs) ∷ []) (λ z. absurd (omega (arith, late, z))) ∙ ap refused late in
+    let stays : (book : List ℕ) → bookAfter s (push rs) book ≡ book = λ book. sym (kept-after book (entered s (push rs) book) answer) in
+    let with = demand3 s leaves blank e (before ++ (push rs ∷ after)) (typed-with rs sixes before after T) in
+    let without = demand3 s leaves blank e (before ++ after) T in
+    let room = zeros (storeWords s) in
+    let fits = zeros-long (storeWords s) in (
+      with .stored room fits .1 ∙ ap (λ (book : List ℕ). built s book room) (leaves-without s (push rs) stays before after leaves) ∙ sym (without .stored room fits .1),
+      with .answered ∙ answers-append s before (push rs ∷ after) ∙ ap (λ (r : Reply). bookAnswers s before ++ (r ∷ bookAnswers s after)) answer,
+    )
 
 own-accepted : OwnAccepted
 own-accepted s leaves blank e calls T q inside buffer long =
@@ -89,6 +134,7 @@ uses =
     record {
       root = root-of-book;
       counts = counts;
+      stops = repeat-stops;
       own = own-accepted;
       other = other-collides;
       only = only-accepted;

@@ -2,11 +2,11 @@
 use mathlib.Core.Path.{_≡_}
 use mathlib.Core.Logic.{_≢_}
 use mathlib.Core.Bool.{true, false}
-use mathlib.Core.List.{List, [], _∷_}
+use mathlib.Core.List.{List, [], _∷_, _++_}
 use Prim.Native.Nat.{ℕ, _*_, _^_, _≤_, _<_}
 use lib.ListN.{length}
 use Rattle.modular.specs.Arithmetic.{allWords}
-use Rattle.refusals.specs.Table.{done}
+use Rattle.refusals.specs.Table.{refused, done}
 use Rattle.parameters.specs.ParameterSet.{primeOf}
 use Rattle.parameters.specs.declared.ParameterSet.{ParameterSet}
 use Rattle.merkle.specs.Storeless.{storelessRoot}
@@ -18,7 +18,7 @@ use Rattle.extraction_entries.specs.Extraction.{pair}
 use Rattle.extraction_entries.specs.Statements.{IsRow, Collides}
 use Rattle.pushes.specs.declared.record.Record.{Record}
 use Rattle.pushes.specs.Records.{placesOf, placesBelow, usedWords, SixWords}
-use Rattle.history.specs.LeafBook.{Call, replacement, push, leafAt, bookLeaves}
+use Rattle.history.specs.LeafBook.{Call, replacement, push, leafAt, bookLeaves, bookAnswers}
 use Rattle.history.specs.History.{Ran, run}
 use Rattle.history.specs.Demand3.{Typed, rootOf}
 
@@ -40,6 +40,17 @@ Counts =
     → repeats (placesOf rs) ≡ false
     → (q : ℕ) (leaf : List ℕ) → length leaf ≡ s .«node_size» → q < leafCount s → allWords (primeOf s) leaf ≡ true
     → run s (push rs ∷ replacement q leaf ∷ []) (built s leaves buffer) .answers ≡ done (s .height * length rs ∷ []) ∷ done (s .height ∷ []) ∷ []
+
+-- A push that has a place twice, and nothing else against it, changes nothing in a list of calls, wherever it stands there: the store is the one
+-- that the others leave without it, and to their answers, the book's, it adds 17.
+abbrev pub RepeatStops : Type 0
+RepeatStops =
+    (s : ParameterSet) (leaves buffer : List ℕ) → buildReply s leaves buffer ≡ done []
+    → (before after : List Call) → Typed (before ++ after)
+    → (rs : List Record) → SixWords rs → length rs ≤ 2 ^ 32 → placesBelow (leafCount s) rs ≡ true → allWords (primeOf s) (usedWords (s .«node_size») rs) ≡ true
+    → repeats (placesOf rs) ≡ true
+    → (run s (before ++ (push rs ∷ after)) (built s leaves buffer) .store ≡ run s (before ++ after) (built s leaves buffer) .store)
+    × (run s (before ++ (push rs ∷ after)) (built s leaves buffer) .answers ≡ bookAnswers s before ++ (refused 17 ∷ bookAnswers s after))
 
 -- Under the storeless root of the book's leaves each of them is accepted, with the opening of its place.
 abbrev pub OwnAccepted : Type 0
@@ -76,6 +87,7 @@ OnlyAccepted =
 pub record Uses : Type 0 where
   pub root : RootOfBook
   pub counts : Counts
+  pub stops : RepeatStops
   pub own : OwnAccepted
   pub other : OtherCollides
   pub only : OnlyAccepted
