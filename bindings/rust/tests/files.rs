@@ -9,7 +9,7 @@ use model::field::P;
 use model::set::Set;
 use opening_tree::{entries, published, NotAccepted, ParameterSet, Refusal, Tree};
 use support::calls::numbers;
-use support::cases::{set_of, SHAPES};
+use support::cases::{refused_sets, set_of, small, SHAPES};
 use support::generator::Generator;
 use support::mapping::Mapping;
 use support::reference::{text, Input};
@@ -119,12 +119,6 @@ fn zeros_have_leaves_of_their_own() {
 /// A leaf with l numbers of the caller's, which a refused call leaves.
 const LEAF: [u64; 2] = [P, 9];
 
-/// Small numbers under which a leaf has two words.
-fn small() -> Set {
-    let (diagonal, constants) = (vec![1, 2, 3, 4], vec![0; 8]);
-    Set { width: 4, node_size: 2, height: 1, full_rounds: 2, partial_rounds: 0, diagonal, constants }
-}
-
 /// The refusal of these contents, which the model gives too, and after which the leaf is as it was.
 fn refusal(set: &Set, contents: &[u8], leaf: &[u64]) -> Refusal {
     let (mut by_library, mut by_model) = (leaf.to_vec(), leaf.to_vec());
@@ -163,18 +157,7 @@ fn a_set_and_a_leaf_are_tested_before_the_contents() {
             assert_eq!(kept(&small()).write_leaf_of_file(contents, &mut leaf), Err(Refusal::BadLength));
             assert_eq!(leaf, vec![P; length]);
         }
-        let sets = [
-            Set { width: 5, ..small() },
-            Set { node_size: 4, ..small() },
-            Set { full_rounds: 3, ..small() },
-            Set { partial_rounds: 65, ..small() },
-            Set { height: 33, ..small() },
-            Set { constants: vec![0; 7], ..small() },
-            Set { constants: vec![P; 8], ..small() },
-            Set { diagonal: vec![1, 2, 0, 4], ..small() },
-            Set { diagonal: vec![P - 4; 4], ..small() },
-        ];
-        for (set, number) in sets.iter().zip(1..) {
+        for (set, number) in refused_sets().iter().zip(1..) {
             for leaf in [&LEAF[..], &[], &[7; 3]] {
                 assert_eq!(refusal(set, contents, leaf).number(), number);
             }

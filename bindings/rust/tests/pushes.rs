@@ -10,7 +10,7 @@ use model::set::Set;
 use opening_tree::entries::{self, record_numbers};
 use opening_tree::{ParameterSet, Record, Refusal, Tree};
 use support::calls::numbers;
-use support::cases::{set_of, SHAPES};
+use support::cases::{refused_sets, set_of, small, SHAPES};
 use support::generator::Generator;
 use support::reference::Input;
 
@@ -137,12 +137,6 @@ fn the_reference_has_the_same_answers_and_stores() {
     assert!(done > 150 && refused > 1000 && most_places == 1 << 22);
 }
 
-/// Small numbers, under which a tree has two leaves of two words.
-fn small() -> Set {
-    let (diagonal, constants) = (vec![1, 2, 3, 4], vec![0; 8]);
-    Set { width: 4, node_size: 2, height: 1, full_rounds: 2, partial_rounds: 0, diagonal, constants }
-}
-
 /// The number of the refusal of a push, by records and by numbers, after which the store is as it was.
 fn refusal(set: &Set, store: &[u64], records: &[Record]) -> u8 {
     let (mut by_records, mut by_numbers) = (store.to_vec(), store.to_vec());
@@ -158,18 +152,7 @@ fn a_repeated_place_is_refused_last() {
     for count in [2, 3, 128, 129, 300] {
         let repeated = &mut vec![record; count];
         assert_eq!(refusal(&small(), &[0; 6], repeated), 17);
-        let sets = [
-            Set { width: 5, ..small() },
-            Set { node_size: 4, ..small() },
-            Set { full_rounds: 3, ..small() },
-            Set { partial_rounds: 65, ..small() },
-            Set { height: 33, ..small() },
-            Set { constants: vec![0; 7], ..small() },
-            Set { constants: vec![P; 8], ..small() },
-            Set { diagonal: vec![1, 2, 0, 4], ..small() },
-            Set { diagonal: vec![P - 4; 4], ..small() },
-        ];
-        for (set, number) in sets.iter().zip(1..) {
+        for (set, number) in refused_sets().iter().zip(1..) {
             assert_eq!(refusal(set, &[0; 6], repeated), number);
         }
         for length in [0, 5, 7] {

@@ -32,6 +32,27 @@ pub fn set_of(generator: &mut Generator, shape: (u64, u64), height: u64, full_ro
     }
 }
 
+/// An accepted set of small numbers, under which a tree has two leaves of two words.
+pub fn small() -> Set {
+    let (diagonal, constants) = (vec![1, 2, 3, 4], vec![0; 8]);
+    Set { width: 4, node_size: 2, height: 1, full_rounds: 2, partial_rounds: 0, diagonal, constants }
+}
+
+/// A set for each of the numbers 1 to 9, in order, that is refused with it.
+pub fn refused_sets() -> [Set; 9] {
+    [
+        Set { width: 5, ..small() },
+        Set { node_size: 4, ..small() },
+        Set { full_rounds: 3, ..small() },
+        Set { partial_rounds: 65, ..small() },
+        Set { height: 33, ..small() },
+        Set { constants: vec![0; 7], ..small() },
+        Set { constants: vec![P; 8], ..small() },
+        Set { diagonal: vec![1, 2, 0, 4], ..small() },
+        Set { diagonal: vec![P - 4; 4], ..small() },
+    ]
+}
+
 /// A set for a function: a small tree where the function needs one, else of any height.
 pub fn set_for(generator: &mut Generator, entry: Entry) -> Set {
     let shape = generator.pick(&SHAPES);
