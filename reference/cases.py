@@ -522,13 +522,18 @@ def states_cases() -> Iterator[tuple[int, Case]]:
             yield (DIGESTS, case)
 
 
+def counted(made: list[list[int]]) -> list[str]:
+    """The lines of an input: how many follow, then each of them."""
+    return [" ".join(map(str, line)) for line in [[len(made)], *made]]
+
+
 def lines(sections: list[Callable[[], Iterator[tuple]]]) -> list[str]:
     """Every line of a program's input."""
     made = []
     for number, section in enumerate(sections):
         made.append([HEADER, number])
         made += [case.line(what) for what, case in section()]
-    return [" ".join(map(str, line)) for line in [[len(made)], *made]]
+    return counted(made)
 
 
 SECTIONS = [sets_cases, states_cases]

@@ -28,6 +28,7 @@ from cases import (
     case_t,
     case_u,
     changed,
+    counted,
     faulted,
     highest,
     seeded,
@@ -240,8 +241,7 @@ def all_files() -> Iterator[Files]:
 
 def lines() -> list[str]:
     """Every line of the input."""
-    made = [files.line() for files in all_files()]
-    return [" ".join(map(str, line)) for line in [[len(made)], *made]]
+    return counted([files.line() for files in all_files()])
 
 
 if __name__ == "__main__":

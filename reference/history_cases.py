@@ -22,7 +22,7 @@ from collections.abc import Callable, Iterator
 from dataclasses import dataclass, field, replace
 from itertools import combinations, product, zip_longest
 
-from cases import LARGEST, SIZES, Listed
+from cases import LARGEST, SIZES, Listed, counted
 from field import P
 from generator import drawn_numbers
 from tree_cases import Tree, seeded_tree, tree_heights, tree_t
@@ -352,8 +352,7 @@ def histories() -> Iterator[History]:
 
 def lines() -> list[str]:
     """Every line of the input."""
-    made = [one.line() for one in histories()]
-    return [" ".join(map(str, line)) for line in [[len(made)], *made]]
+    return counted([one.line() for one in histories()])
 
 
 if __name__ == "__main__":

@@ -18,7 +18,7 @@ from collections.abc import Callable, Iterator
 from dataclasses import dataclass, field
 from itertools import combinations, product
 
-from cases import LARGEST, Listed
+from cases import LARGEST, Listed, counted
 from field import P
 from history_cases import (
     LENGTHS,
@@ -273,8 +273,7 @@ def all_pushes() -> Iterator[Pushes]:
 
 def lines() -> list[str]:
     """Every line."""
-    made = [one.line() for one in all_pushes()]
-    return [" ".join(map(str, line)) for line in [[len(made)], *made]]
+    return counted([one.line() for one in all_pushes()])
 
 
 if __name__ == "__main__":
