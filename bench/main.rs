@@ -1,6 +1,7 @@
 //! The proved library beside Rust versions of the same work, in interleaved rounds of one run. `tuned` keeps lazy numbers below
 //! 2^64 and sums in u128; `plain` brings every sum and product below p. The program prints Markdown and writes two pictures to
 //! the folder that it is handed; a second argument `quick` makes it do a tenth of the rounds, once, without the longest pushes.
+mod calls;
 mod charts;
 mod files;
 mod measure;

@@ -1,21 +1,9 @@
 //! The proved functions: the library's own (include/opening_tree.h), and a permutation and a compression without validation.
+use crate::calls::{call, declare};
 use crate::trees::{Rounds, Set};
 
-/// Declares C functions that take a set and then what is named, and return a number.
-macro_rules! declare {
-    ($($name:ident($($parameter:ident: $kind:ty),*);)*) => {
-        #[link(name = "opening_tree_c", kind = "static")]
-        extern "C" {
-            $(fn $name(
-                width: u64, node_size: u64, height: u64, full_rounds: u64, partial_rounds: u64,
-                diagonal: *const u64, diagonal_count: usize, constants: *const u64, constants_count: usize,
-                $($parameter: $kind),*
-            ) -> u8;)*
-        }
-    };
-}
-
 declare! {
+    "opening_tree_c", u8;
     opening_tree_validate();
     opening_tree_compress(state: *const u64, state_count: usize, node: *mut u64, node_count: usize);
     opening_tree_build(leaves: *const u64, leaves_count: usize, store: *mut u64, store_count: usize);
@@ -57,19 +45,6 @@ extern "C" {
         node: *mut u64,
         node_count: usize,
     );
-}
-
-/// Calls a C function with a set and what follows.
-macro_rules! call {
-    ($name:ident, $set:expr $(, $argument:expr)*) => {{
-        let (set, d, c) = ($set, $set.diagonal, $set.constants);
-        unsafe {
-            $name(
-                set.width, set.node_size, set.height, set.full_rounds, set.partial_rounds,
-                d.as_ptr(), d.len(), c.as_ptr(), c.len() $(, $argument)*
-            )
-        }
-    }};
 }
 
 pub fn validate(set: &Set) -> u8 {
