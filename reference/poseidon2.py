@@ -1,5 +1,8 @@
 """The permutation, its inverse and compression (docs/RULES.md, 3, 4.1, 7.2, 7.3).
 
+The halves of M_E (3.10) stand beside it and are no part of the permutation
+here: the library makes M_E by them, and the two are compared.
+
 The functions above the entries take words of an accepted set. The entries
 (permute, unpermute, compress) test what they are handed and answer
 ("words", list) or ("refused", r); they change none of the lists.
@@ -44,6 +47,18 @@ def external_layer(state: Words) -> Words:
         return blocks[0]
     total = [sum(words) for words in zip(*blocks)]
     return [word for block in blocks for word in add(block, total)]
+
+
+def sums(state: Words) -> Words:
+    """To each block the sum of all; a block alone stays (Rules 3.10)."""
+    if len(state) == 4:
+        return list(state)
+    return [(word + sum(state[i % 4 :: 4])) % P for i, word in enumerate(state)]
+
+
+def m4_blocks(state: Words) -> Words:
+    """M4 of every block (Rules 3.10)."""
+    return [word for i in range(0, len(state), 4) for word in times(M4, state[i : i + 4])]
 
 
 def internal_layer(diagonal: Words, state: Words) -> Words:

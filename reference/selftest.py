@@ -109,10 +109,17 @@ def worked_field() -> Iterator[Check]:
 
 
 def worked_layers() -> Iterator[Check]:
-    """The worked cases of M4, M_E and M_I."""
+    """The worked cases of M4, M_E, its halves and M_I."""
     yield "M4", poseidon2.times(poseidon2.M4, [1, 0, 0, 0]), [5, 4, 1, 1]
     got = poseidon2.external_layer([1, 0, 0, 0, 0, 0, 0, 0])
     yield "M_E, t=8", got, [10, 8, 2, 2, 5, 4, 1, 1]
+    got = poseidon2.sums([1, 0, 0, 0, 0, 0, 0, 0])
+    yield "sums, t=8", got, [2, 0, 0, 0, 1, 0, 0, 0]
+    got = poseidon2.m4_blocks([2, 0, 0, 0, 1, 0, 0, 0])
+    yield "M4 in each block, t=8", got, [10, 8, 2, 2, 5, 4, 1, 1]
+    got = poseidon2.sums(list(range(1, 13)))
+    yield "sums, t=12", got, [16, 20, 24, 28, 20, 24, 28, 32, 24, 28, 32, 36]
+    yield "sums, t=4", poseidon2.sums([1, 2, 3, 4]), [1, 2, 3, 4]
     got = poseidon2.internal_layer(set_t().diagonal[:4], [1, 0, 0, 0])
     yield "M_I under T", got, [2, 1, 1, 1]
 
@@ -304,6 +311,20 @@ def handed_sets() -> Iterator[Check]:
         yield f"sizes, refused with {number}", merkle.sizes(s), refused
         yield f"build, refused with {number}", merkle.build(s, [P], []), refused
         yield f"push, refused with {number}", merkle.push(s, [P], [(9, [P] * 6)]), refused
+
+
+def halves_of_external() -> Iterator[Check]:
+    """The sums and then M4 in each block are M_E, and so are they the other way round."""
+    rng = random.Random(20)
+    for width in (4, 8, 12):
+        states = [[P - 1] * width, *poseidon2.matrix_of(list, width)]
+        states += [seeded_words(rng, width) for _ in range(200)]
+        for i, state in enumerate(states):
+            layer = poseidon2.external_layer(state)
+            got = poseidon2.m4_blocks(poseidon2.sums(state))
+            yield f"t={width}, state {i}, sums first", got, layer
+            got = poseidon2.sums(poseidon2.m4_blocks(state))
+            yield f"t={width}, state {i}, M4 first", got, layer
 
 
 def inverse_permutations() -> Iterator[Check]:
@@ -709,6 +730,7 @@ GROUPS = [
     ("field rules", field_rules),
     ("validation refusals", validation_refusals),
     ("handed sets", handed_sets),
+    ("halves of M_E", halves_of_external),
     ("inverse permutations", inverse_permutations),
     ("vectors' cases", vectors_cases),
     ("tree_vectors' cases", tree_vectors_cases),

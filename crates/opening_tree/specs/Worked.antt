@@ -4,7 +4,7 @@ use mathlib.Core.List.{List, [], _∷_, _++_}
 use Prim.Native.Nat.{ℕ, _+_, _-_, _^_}
 use Rattle.modular.specs.Arithmetic.{sub, mul, inverse}
 use Rattle.fields.specs.Prime.{prime, wordBytes}
-use Rattle.poseidon2.specs.Layers.{m4, external, internal}
+use Rattle.poseidon2.specs.Layers.{m4, external, sums, m4Blocks, internal}
 use Rattle.poseidon2.specs.Rounds.{permute}
 use Rattle.poseidon2.specs.Compression.{compress}
 use Rattle.merkle.specs.Levels.{Shape, build, root}
@@ -46,6 +46,10 @@ abbrev pub permutationCases : List Case
 permutationCases =
     case (m4 prime one) (5 ∷ 4 ∷ 1 ∷ 1 ∷ []) ∷
     case (external prime (1 ∷ 0 ∷ 0 ∷ 0 ∷ 0 ∷ 0 ∷ 0 ∷ 0 ∷ [])) (10 ∷ 8 ∷ 2 ∷ 2 ∷ 5 ∷ 4 ∷ 1 ∷ 1 ∷ []) ∷
+    case (sums prime (1 ∷ 0 ∷ 0 ∷ 0 ∷ 0 ∷ 0 ∷ 0 ∷ 0 ∷ [])) (2 ∷ 0 ∷ 0 ∷ 0 ∷ 1 ∷ 0 ∷ 0 ∷ 0 ∷ []) ∷
+    case (m4Blocks prime (2 ∷ 0 ∷ 0 ∷ 0 ∷ 1 ∷ 0 ∷ 0 ∷ 0 ∷ [])) (10 ∷ 8 ∷ 2 ∷ 2 ∷ 5 ∷ 4 ∷ 1 ∷ 1 ∷ []) ∷
+    case (sums prime (1 ∷ 2 ∷ 3 ∷ 4 ∷ 5 ∷ 6 ∷ 7 ∷ 8 ∷ 9 ∷ 10 ∷ 11 ∷ 12 ∷ [])) (16 ∷ 20 ∷ 24 ∷ 28 ∷ 20 ∷ 24 ∷ 28 ∷ 32 ∷ 24 ∷ 28 ∷ 32 ∷ 36 ∷ []) ∷
+    case (sums prime (1 ∷ 2 ∷ 3 ∷ 4 ∷ [])) (1 ∷ 2 ∷ 3 ∷ 4 ∷ []) ∷
     case (internal prime tDiagonal one) (2 ∷ 1 ∷ 1 ∷ 1 ∷ []) ∷
     case (permute prime 1 0 tDiagonal tConstants one) (5 ∷ 4 ∷ 1 ∷ 1 ∷ []) ∷
     case (compress prime 2 1 0 tDiagonal tConstants one) (6 ∷ 4 ∷ []) ∷

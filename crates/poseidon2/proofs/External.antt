@@ -24,18 +24,27 @@ use Rattle.poseidon2.proofs.Internal.{unit}
 pub data Four : List ℕ → Type 0 where
   four : (a b c d : ℕ) → Four (a ∷ b ∷ c ∷ d ∷ [])
 
--- each of a list is a block of words
+-- each of a list is a block
+pub data Fours : List (List ℕ) → Type 0 where
+  no-four : Fours []
+  and-four : {b : List ℕ} {bs : List (List ℕ)} → Four b → Fours bs → Fours (b ∷ bs)
+
+-- each is a block of words
 pub data Blocks (p : ℕ) : List (List ℕ) → Type 0 where
   no-block : Blocks p []
   and-block : {b : List ℕ} {bs : List (List ℕ)} → Four b → Words p b → Blocks p bs → Blocks p (b ∷ bs)
 
-four-eq : {a b c d e f g h : ℕ} → a ≡ e → b ≡ f → c ≡ g → d ≡ h → a ∷ b ∷ c ∷ d ∷ [] ≡ e ∷ f ∷ g ∷ h ∷ []
+fours : {p : ℕ} {bs : List (List ℕ)} → Blocks p bs → Fours bs
+fours no-block = no-four
+fours (and-block f w u) = and-four f (fours u)
+
+pub four-eq : {a b c d e f g h : ℕ} → a ≡ e → b ≡ f → c ≡ g → d ≡ h → a ∷ b ∷ c ∷ d ∷ [] ≡ e ∷ f ∷ g ∷ h ∷ []
 four-eq i j k l = cons-eq i (cons-eq j (cons-eq k (cons-eq l refl)))
 
-pub blocks-join : {p : ℕ} {bs : List (List ℕ)} → Blocks p bs → blocks (joinBlocks bs) ≡ bs
+pub blocks-join : {bs : List (List ℕ)} → Fours bs → blocks (joinBlocks bs) ≡ bs
 unfolding blocks joinBlocks
-blocks-join no-block = refl
-blocks-join (and-block (four a b c d) w u) = ap (λ (bs : List (List ℕ)). (a ∷ b ∷ c ∷ d ∷ []) ∷ bs) (blocks-join u)
+blocks-join no-four = refl
+blocks-join (and-four (four a b c d) u) = ap (λ (bs : List (List ℕ)). (a ∷ b ∷ c ∷ d ∷ []) ∷ bs) (blocks-join u)
 
 join-length : {p : ℕ} {bs : List (List ℕ)} → Blocks p bs → length (joinBlocks bs) ≡ 4 * length bs
 unfolding joinBlocks
@@ -346,7 +355,7 @@ module _ {p : ℕ} (pos : 0 < p) where
     unfolding external unexternal
     external-back xs s =
         let u : Blocks p (map (m4 p) (blocks xs)) = m4-blocks (blocks xs) in
-        ap (λ (bs : List (List ℕ)). joinBlocks (map (unm4 p) (unmixed p bs))) (blocks-join (mixed-blocks u))
+        ap (λ (bs : List (List ℕ)). joinBlocks (map (unm4 p) (unmixed p bs))) (blocks-join (fours (mixed-blocks u)))
         ∙ ap (λ (bs : List (List ℕ)). joinBlocks (map (unm4 p) bs)) (mixed-back n g u (length-map (blocks xs) (m4 p) ∙ blocks-length n xs (s .width)))
         ∙ ap joinBlocks (map-back (m4 p) (unm4 p) (m4-back h) (blocks-words xs (s .words)))
         ∙ join-blocks n xs (s .width)
@@ -355,7 +364,7 @@ module _ {p : ℕ} (pos : 0 < p) where
     unfolding external unexternal
     external-forth ys s =
         let u : Blocks p (blocks ys) = blocks-words ys (s .words) in
-        ap (λ (bs : List (List ℕ)). joinBlocks (mixed p (map (m4 p) bs))) (blocks-join (unm4-blocks (unmixed p (blocks ys))))
+        ap (λ (bs : List (List ℕ)). joinBlocks (mixed p (map (m4 p) bs))) (blocks-join (fours (unm4-blocks (unmixed p (blocks ys)))))
         ∙ ap (λ (bs : List (List ℕ)). joinBlocks (mixed p bs)) (map-back (unm4 p) (m4 p) (m4-forth h) (unmixed-blocks u))
         ∙ ap joinBlocks (mixed-forth n g u (blocks-length n ys (s .width)))
         ∙ join-blocks n ys (s .width)

@@ -2,6 +2,7 @@
 pub mod Words
 pub mod Internal
 pub mod External
+pub mod SumsFirst
 pub mod Residues
 pub mod Rounds
 pub mod Places

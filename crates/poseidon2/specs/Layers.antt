@@ -65,6 +65,14 @@ mixed p (b ∷ c ∷ bs) = addToEach p (sumBlocks p (b ∷ c ∷ bs)) (b ∷ c �
 unfoldable pub external : ℕ → List ℕ → List ℕ
 external p xs = joinBlocks (mixed p (map (m4 p) (blocks xs)))
 
+-- The halves of M_E (Rules 3.10), for any number of blocks. The sums: to each block the sum of all; a block alone stays.
+unfoldable pub sums : ℕ → List ℕ → List ℕ
+sums p xs = joinBlocks (mixed p (blocks xs))
+
+-- M4 in each block.
+unfoldable pub m4Blocks : ℕ → List ℕ → List ℕ
+m4Blocks p xs = joinBlocks (map (m4 p) (blocks xs))
+
 -- For each word, s and D_i times the word. A D_i that the list lacks counts as 0, and one beyond the words is not read.
 unfoldable pub plusMultiples : ℕ → ℕ → List ℕ → List ℕ → List ℕ
 plusMultiples p s D [] = []

@@ -5,7 +5,7 @@ use mathlib.Core.List.{List}
 use Prim.Native.Nat.{ℕ, _+_, _%_, _<_, _≤_}
 use lib.ListN.{length, getD, take}
 use Rattle.modular.specs.PrimeField.{PrimeField}
-use Rattle.poseidon2.specs.Layers.{sum, external, internal}
+use Rattle.poseidon2.specs.Layers.{sum, external, sums, m4Blocks, internal}
 use Rattle.poseidon2.specs.Rounds.{permute}
 use Rattle.poseidon2.specs.Compression.{compress}
 use Rattle.poseidon2.specs.Residues.{residues}
@@ -57,6 +57,13 @@ pub record OnResidues (p : ℕ) : Type 0 where
   pub internalLayer : (D xs : List ℕ) → internal p D (residues p xs) ≡ internal p D xs
   pub permutation : (half rp : ℕ) (D C xs : List ℕ) → permute p half rp D C (residues p xs) ≡ permute p half rp D C xs
   pub compression : (l half rp : ℕ) (D C xs : List ℕ) → compress p l half rp D C (residues p xs) ≡ compress p l half rp D C xs
+
+-- M_E by its halves (Rules 3.10), for any p, prime or not, and every list of numbers, a state of any width among them: the sums and then
+-- M4 in each block are M_E, and so are M4 in each block and then the sums; four numbers are a block alone, and the sums leave them.
+pub record SumsFirst (p : ℕ) : Type 0 where
+  pub sumsThenM4 : (xs : List ℕ) → m4Blocks p (sums p xs) ≡ external p xs
+  pub m4ThenSums : (xs : List ℕ) → sums p (m4Blocks p xs) ≡ external p xs
+  pub alone : (xs : List ℕ) → length xs ≡ 4 → sums p xs ≡ xs
 
 -- All of it, for every prime of the record.
 pub record Claims (p : ℕ) (F : PrimeField p) : Type 0 where
