@@ -1,6 +1,6 @@
 -- A number of 64 bits by its halves: sums of several halves still fit 64 bits, so that a word of M_E needs one reduction only.
 use mathlib.Core.List.{List, [], _∷_, map}
-use Prim.Native.Nat.{ℕ, _+_, _*_, _/_, _%_, _≤_}
+use Prim.Native.Nat.{ℕ, _+_, _*_, _/_, _%_, _<_, _≤_}
 use lib.ListN.{getD}
 use Rattle.poseidon2.specs.Layers.{dot, m4Rows}
 
@@ -32,3 +32,7 @@ pub record Within (n : ℕ) (b : List ℕ) : Type 0 where
   pub at1 : getD b 1 0 ≤ n
   pub at2 : getD b 2 0 ≤ n
   pub at3 : getD b 3 0 ≤ n
+
+-- each of n blocks is
+pub record AllWithin (m n : ℕ) (bs : List (List ℕ)) : Type 0 where
+  pub at : (i : ℕ) → i < n → Within m (getD bs i [])

@@ -1,14 +1,33 @@
-use Rattle.blocks.proofs.Halves.{m4-stands, external-one}
+use mathlib.Core.Path.{refl}
+use mathlib.Core.Logic.{inl}
+use mathlib.Core.List.{[]}
+use lib.Dec.{lit<}
+use Rattle.modular.specs.Goldilocks.{p}
+use Rattle.blocks.specs.Blocks.{four}
+use Rattle.blocks.proofs.Halves.{parts-none, parts-more, joins-none, joins-more}
+use Rattle.blocks.proofs.External.{external-alone}
 use borrow.Author.Needs.{needs}
 use Rattle.layers.proofs.external.external4.Statement.{statement}
 use Rattle.layers.proofs.external.external4.Tie as tie
 
 returns : tie.Need-returns
 returns c =
-    let l = c .before in
-    let h = l .before in
-    let x = h .before .args .x in
-    external-one x (c .mixed-block .result) (m4-stands x (h .m4-high .result) (l .m4-low .result) (h .m4-high .ensures .0) (l .m4-low .ensures .0)) (c .mixed-block .ensures)
+    let ml = c .before in
+    let ls = ml .before in
+    let mh = ls .before in
+    let hs = mh .before in
+    let x = hs .before .args .x in
+    let a = hs .highs .result in
+    let e = ls .lows .result in
+    let h = mh .m4-blocks4 .result in
+    let l = ml .m4-blocks42 .result in
+    let r = c .join-block .result in
+    external-alone p (lit< tt) (inl refl) (four a) (four e) (four x) (four r) refl
+    (parts-more p x a e [] [] [] (hs .highs .ensures .0) (ls .lows .ensures .0) (parts-none p))
+    refl (mh .m4-blocks4 .ensures .0) refl (ml .m4-blocks42 .ensures .0)
+    (joins-more p h l r [] [] [] (c .join-block .ensures) (joins-none p))
 
 pub external4-spec : {M : Type 1} → statement M
-external4-spec = tie.close (tie.spec (λ c. search needs) (λ c. search needs) (λ c. search needs) returns)
+external4-spec =
+    tie.close
+    (tie.spec (λ c. search needs) (λ c. search needs) (λ c. search needs) (λ c. search needs) (λ c. search needs) returns)
