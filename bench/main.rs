@@ -4,6 +4,7 @@
 mod calls;
 mod charts;
 mod files;
+mod halves;
 mod measure;
 mod picture;
 mod poseidon2;
@@ -178,12 +179,18 @@ impl Bench {
         });
     }
 
-    /// A permutation, a compression and a validation.
+    /// A permutation and the halves of its external layer, a compression and a validation.
     fn states<const T: usize>(&mut self, draw: &mut impl FnMut() -> u64) {
         let case = Case::<T>::new(T / 2, 16, draw);
         let (n, l) = (self.rounds(300), Some(T / 2));
         let target = permutation_target(T);
+        case.assert_halves();
         self.add("permutation, no validation", T, None, None, case.permutation(n), Some(target));
+        // A block alone has no sums.
+        if T > 4 {
+            self.add("sums", T, None, None, case.sums(n), None);
+        }
+        self.add("M4 in each block", T, None, None, case.m4_blocks(n), None);
         self.add("compression, no validation", T, l, None, case.bare_compression(n), None);
         self.add("compress", T, l, None, case.compression(n), None);
         self.add("validate", T, l, None, case.validation(n), None);
@@ -328,6 +335,8 @@ impl Bench {
     fn print(mut self, load: String) {
         let order = [
             "permutation",
+            "sums",
+            "M4",
             "compression",
             "compress",
             "validate",

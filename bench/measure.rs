@@ -1,5 +1,6 @@
 //! One measurement of each operation: the proved version, the tuned and the plain one in interleaved rounds.
 use crate::files;
+use crate::halves;
 use crate::poseidon2::{Plain, Tuned, Version};
 use crate::proved;
 use crate::repeats;
@@ -9,8 +10,10 @@ use std::hint::black_box;
 /// R_F and R_P.
 pub const FULL: usize = 8;
 pub const PARTIAL: usize = 22;
-/// Calls in a round: of one permutation, compression or validation; of one verification or replacement.
+/// Calls in a round: of one permutation, compression or validation; of a half of M_E, which takes little; of one verification or
+/// replacement.
 const STATE_CALLS: usize = 400;
+const HALF_CALLS: usize = 20_000;
 const TREE_CALLS: usize = 40;
 /// An opening takes little: a round opens each place so many times.
 const OPENINGS: usize = 10;
@@ -191,6 +194,7 @@ fn sample(best: &mut f64, calls: usize, call: impl Fn()) {
 
 // What the versions of an operation have in common. A call goes through a pointer, so that no version is joined with its caller.
 type Permute<const T: usize> = fn(&Rounds, &mut [u64; T]);
+type Half<const T: usize> = fn(&[u64; T], &mut [u64; T]);
 type BareCompress<const T: usize> = fn(&Rounds, &[u64; T], &mut [u64]);
 type Validate = fn(&Set) -> u8;
 type Write = fn(&Set, &[u64], &mut [u64]) -> u8;
@@ -202,6 +206,22 @@ type LeafOfFile<'a> = &'a dyn Fn(&Set, &[u8], &mut [u64]) -> u8;
 
 fn permute<V: Version, const T: usize>(rounds: &Rounds, state: &mut [u64; T]) {
     V::permute(state, &rounds.diagonal, &rounds.constants, rounds.full, rounds.partial)
+}
+
+/// What a half of M_E writes.
+fn written<const T: usize>(half: Half<T>, numbers: &[u64; T]) -> [u64; T] {
+    let mut state = [1; T];
+    half(numbers, &mut state);
+    state
+}
+
+// The versions of the halves of M_E.
+fn sums<const T: usize>() -> [Half<T>; 3] {
+    [halves::sums, Tuned::sums, Plain::sums]
+}
+
+fn m4_blocks<const T: usize>() -> [Half<T>; 3] {
+    [halves::m4_blocks, Tuned::m4_blocks, Plain::m4_blocks]
 }
 
 /// A set of seeded words, with leaves, and places with new leaves for them.
@@ -263,6 +283,47 @@ impl<const T: usize> Case<T> {
             (0..STATE_CALLS).for_each(|_| version(black_box(&held), state));
         });
         Times::of(&best, STATE_CALLS)
+    }
+
+    pub fn sums(&self, rounds: usize) -> Times {
+        self.half(rounds, sums(), halves::SUMMED)
+    }
+
+    pub fn m4_blocks(&self, rounds: usize) -> Times {
+        self.half(rounds, m4_blocks(), halves::MULTIPLIED)
+    }
+
+    /// Calls of a half of M_E, each of the same numbers below a bound.
+    fn half(&self, rounds: usize, versions: [Half<T>; 3], bound: u64) -> Times {
+        let numbers = self.row().map(|x| x % bound);
+        let best = race(rounds, &[1; T], versions, |version, _, buffer| {
+            let state: &mut [u64; T] = buffer.try_into().unwrap();
+            (0..HALF_CALLS).for_each(|_| version(black_box(&numbers), state));
+        });
+        Times::of(&best, HALF_CALLS)
+    }
+
+    /// The versions' halves agree, and M4 after the sums is M_E, which is what a permutation without rounds makes.
+    pub fn assert_halves(&self) {
+        let row = self.row().map(|x| x % halves::SUMMED);
+        let mut starts = vec![row];
+        for number in [0, 1, halves::SUMMED - 1] {
+            starts.push([number; T]);
+            starts.extend((0..T).map(|i| std::array::from_fn(|j| if i == j { number } else { row[j] })));
+        }
+        let no_rounds = Rounds {
+            full: 0,
+            partial: 0,
+            ..Rounds::of(&self.set())
+        };
+        for start in starts {
+            let mut whole = start;
+            permute::<Plain, T>(black_box(&no_rounds), &mut whole);
+            let made = sums().map(|version| written(version, &start));
+            assert!(made == [made[0]; 3], "the sums differ");
+            let made = m4_blocks().map(|version| written(version, &made[0]));
+            assert!(made == [whole; 3], "the halves are not M_E");
+        }
     }
 
     /// One compression after another, without validation. The node goes to the front of the next row.

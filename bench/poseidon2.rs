@@ -19,6 +19,11 @@ pub trait Version {
     fn mul_add(a: u64, b: u64, c: u64) -> u64;
     /// The permutation of T words below p, or of any numbers for the tuned version: D and C in their places, R_F, R_P.
     fn permute<const T: usize>(s: &mut [u64; T], d: &[u64; 12], c: &[u64; 208], full: usize, partial: usize);
+    /// The first half of M_E by itself, which `permute` does not call: to each block of four the sum of all blocks; a block alone stays. The
+    /// numbers are as small as `halves` says.
+    fn sums<const T: usize>(x: &[u64; T], s: &mut [u64; T]);
+    /// The second half: M4 in each block.
+    fn m4_blocks<const T: usize>(x: &[u64; T], s: &mut [u64; T]);
 }
 
 pub struct Plain;
@@ -84,6 +89,25 @@ macro_rules! m4 {
     }};
 }
 
+/// The halves of M_E by themselves, on any kind of sum.
+macro_rules! sums {
+    ($x:expr, $s:expr, $add:expr) => {
+        for j in 0..4 {
+            let total = (1..T / 4).fold($x[j], |n, b| $add(n, $x[4 * b + j]));
+            (0..T / 4).for_each(|b| $s[4 * b + j] = if T > 4 { $add($x[4 * b + j], total) } else { total });
+        }
+    };
+}
+
+macro_rules! m4_blocks {
+    ($x:expr, $s:expr, $add:expr) => {
+        for b in 0..T / 4 {
+            let y = m4!([$x[4 * b], $x[4 * b + 1], $x[4 * b + 2], $x[4 * b + 3]], $add);
+            $s[4 * b..4 * b + 4].copy_from_slice(&y);
+        }
+    };
+}
+
 /// Words below p after every sum and product.
 mod plain {
     use super::*;
@@ -123,6 +147,16 @@ mod plain {
         #[inline(always)]
         fn permute<const T: usize>(s: &mut [u64; T], d: &[u64; 12], c: &[u64; 208], full: usize, partial: usize) {
             permute(s, d, c, full, partial)
+        }
+
+        #[inline(never)]
+        fn sums<const T: usize>(x: &[u64; T], s: &mut [u64; T]) {
+            sums!(x, s, add)
+        }
+
+        #[inline(never)]
+        fn m4_blocks<const T: usize>(x: &[u64; T], s: &mut [u64; T]) {
+            m4_blocks!(x, s, add)
         }
     }
 
@@ -203,6 +237,16 @@ mod tuned {
         #[inline(always)]
         fn permute<const T: usize>(s: &mut [u64; T], d: &[u64; 12], c: &[u64; 208], full: usize, partial: usize) {
             permute(s, d, c, full, partial)
+        }
+
+        #[inline(never)]
+        fn sums<const T: usize>(x: &[u64; T], s: &mut [u64; T]) {
+            sums!(x, s, |a: u64, b: u64| a + b)
+        }
+
+        #[inline(never)]
+        fn m4_blocks<const T: usize>(x: &[u64; T], s: &mut [u64; T]) {
+            m4_blocks!(x, s, |a: u64, b: u64| a + b)
         }
     }
 

@@ -1,13 +1,15 @@
-// What the benchmark calls beside the library's own C functions: a permutation and a compression without validation, and the passes of a
-// push over its records. They require what a validated set gives.
+// What the benchmark calls beside the library's own C functions: a permutation and a compression without validation, the halves of M_E, and the
+// passes of a push over its records. They require what a validated set gives, and the halves numbers as small as the layer hands them.
 pub mod pushed;
 
 ghost use mathlib.Core.Path.{_≡_};
 ghost use Prim.Native.Nat.{_≤_};
 ghost use lib.ListN.{length};
 ghost use Rattle.fields.specs.Prime.{prime};
+ghost use Rattle.poseidon2.specs.Layers.{sums, m4Blocks};
 ghost use Rattle.poseidon2.specs.Rounds.{permute};
 ghost use Rattle.poseidon2.specs.Compression.{compress};
+ghost use Rattle.poseidon2.specs.Statements.{Width, Words};
 ghost use Rattle.measures.specs.Measured.{Validated};
 
 // One permutation, without validation.
@@ -51,4 +53,22 @@ pub extern "C" fn measured_compress(
         row,
         node,
     );
+}
+
+// The first half of M_E, the sums, of numbers below 2^32: from a list to a state.
+#[no_mangle]
+pub extern "C" fn measured_sums(width: usize, list: &[u64], state: &mut [u64])
+    requires { ⌜ (Width width) × (length (now list) ≡ width) × (Words 4294967296 (now list)) × (length (now state) ≡ width) ⌝ }
+    ensures { λ r. ⌜ now (state .exit) ≡ sums prime (now (list .entry)) ⌝ }
+{
+    permutations::sums(width, list, state);
+}
+
+// The second half, M4 in each block, of numbers that are at most four times as large.
+#[no_mangle]
+pub extern "C" fn measured_m4_blocks(width: usize, list: &[u64], state: &mut [u64])
+    requires { ⌜ (Width width) × (length (now list) ≡ width) × (Words 17179869181 (now list)) × (length (now state) ≡ width) ⌝ }
+    ensures { λ r. ⌜ now (state .exit) ≡ m4Blocks prime (now (list .entry)) ⌝ }
+{
+    permutations::m4_blocks(width, list, state);
 }

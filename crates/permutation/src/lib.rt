@@ -1,4 +1,5 @@
 // Poseidon2's permutation and compression of the numbers of slices. The width is looked at once a permutation.
+pub mod halves;
 mod rounds;
 
 ghost use mathlib.Core.Path.{_≡_};

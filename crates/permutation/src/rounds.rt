@@ -24,7 +24,7 @@ fn next_constant(constants: &[u64; 208], at: usize, i: usize, n: usize) -> u64
 }
 
 // Four numbers of a list.
-fn load(list: &[u64], at: usize) -> [u64; 4]
+pub fn load(list: &[u64], at: usize) -> [u64; 4]
     requires { ⌜ at + 4 ≤ length (now list) ⌝ }
     ensures { λ r. ⌜ four r ≡ take 4 (drop at (now (list .entry))) ⌝ }
 {

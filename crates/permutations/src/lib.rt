@@ -3,6 +3,7 @@ ghost use mathlib.Core.Path.{_≡_};
 ghost use Prim.Native.Nat.{_+_, _*_, _≤_};
 ghost use lib.ListN.{length, take, drop};
 ghost use lib.Seq.{paste};
+ghost use Rattle.poseidon2.specs.Layers.{sums, m4Blocks};
 ghost use Rattle.poseidon2.specs.Rounds.{permute};
 ghost use Rattle.poseidon2.specs.Inverse.{unpermute};
 ghost use Rattle.poseidon2.specs.Compression.{compress};
@@ -92,4 +93,20 @@ pub fn unpermute(
     ensures { λ r. ⌜ now (state .exit) ≡ unpermute prime half «partial_rounds» (now (diagonal .entry)) (now (constants .entry)) (now (state .entry)) ⌝ }
 {
     inversion::unpermute(width, half, partial_rounds, diagonal, constants, state);
+}
+
+// The first half of M_E, the sums, of numbers below 2^32: from a list to a state.
+pub fn sums(width: usize, list: &[u64], state: &mut [u64])
+    requires { ⌜ (Width width) × (length (now list) ≡ width) × (Words 4294967296 (now list)) × (length (now state) ≡ width) ⌝ }
+    ensures { λ r. ⌜ now (state .exit) ≡ sums prime (now (list .entry)) ⌝ }
+{
+    permutation::halves::sums(width, list, state);
+}
+
+// The second half, M4 in each block, of numbers that are at most four times as large.
+pub fn m4_blocks(width: usize, list: &[u64], state: &mut [u64])
+    requires { ⌜ (Width width) × (length (now list) ≡ width) × (Words 17179869181 (now list)) × (length (now state) ≡ width) ⌝ }
+    ensures { λ r. ⌜ now (state .exit) ≡ m4Blocks prime (now (list .entry)) ⌝ }
+{
+    permutation::halves::m4_blocks(width, list, state);
 }

@@ -1,0 +1,90 @@
+use mathlib.Core.Path.{_≡_, ap, _∙_}
+use native.Mathlib.Omega.{arith}
+use Rattle.modular.specs.Goldilocks.{p}
+use Rattle.poseidon2.specs.Layers.{m4Blocks}
+use Rattle.blocks.proofs.External.{within-two, within-three}
+use Rattle.blocks.proofs.Slices.{all-of, twelve, width-some, width-more, loaded-within}
+use Rattle.blocks.proofs.Turns.{two-from, three-from}
+use borrow.Author.Needs.{needs}
+use Rattle.permutation.proofs.halves.multiplied.Statement.{statement}
+use Rattle.permutation.proofs.halves.multiplied.Tie as tie
+
+load-requires : tie.Need-load-requires
+load-requires c κs =
+    let i = c .before in
+    omega (arith, i .pre .1, width-some (i .pre .0))
+
+m4-blocks4-requires : tie.Need-m4-blocks4-requires
+m4-blocks4-requires c κs =
+    let a = c .before in
+    let i = a .before .before in
+    loaded-within 17179869180 0 (i .args .list .now) (a .load .result) (omega arith) (i .pre .2) (a .load .ensures)
+
+returns : tie.Need-returns
+returns c =
+    let t = c .before in
+    let a = t .before in
+    let i = a .before .before in
+    let e : i .args .width ≡ 4 = t .if1 .taken in
+    rw e (c .m4-blocks4 .ensures .0 ∙ ap (m4Blocks p) (a .load .ensures ∙ all-of 4 (i .args .list .now) (i .pre .1 ∙ e)))
+
+load-requires-2 : tie.Need-load-requires-2
+load-requires-2 c κs =
+    let i = c .before .before .before in
+    omega (arith, i .pre .1, width-more (i .pre .0) (c .if1 .left))
+
+m4-blocks8-requires : tie.Need-m4-blocks8-requires
+m4-blocks8-requires c κs =
+    let b = c .before in
+    let a = b .before .before in
+    let i = a .before .before in
+    let xs = i .args .list .now in
+    within-two (a .load .result) (b .load2 .result) (loaded-within 17179869180 0 xs (a .load .result) (omega arith) (i .pre .2) (a .load .ensures))
+    (loaded-within 17179869180 4 xs (b .load2 .result) (omega arith) (i .pre .2) (b .load2 .ensures))
+
+returns-2 : tie.Need-returns-2
+returns-2 c =
+    let r = c .before .before in
+    let t = r .before in
+    let b = t .before in
+    let a = b .before .before in
+    let i = a .before .before in
+    let xs = i .args .list .now in
+    let e : i .args .width ≡ 8 = t .if2 .taken in
+    rw e (r .m4-blocks8 .ensures .0 ∙ ap (m4Blocks p) (two-from 0 xs (a .load .result) (b .load2 .result) (a .load .ensures) (b .load2 .ensures) ∙ all-of 8 xs (i .pre .1 ∙ e)))
+
+load-requires-3 : tie.Need-load-requires-3
+load-requires-3 c κs =
+    let f = c .before .before in
+    let i = f .before .before .before in
+    omega (arith, i .pre .1, twelve (i .pre .0) (f .if1 .left) (c .if2 .left))
+
+m4-blocks12-requires : tie.Need-m4-blocks12-requires
+m4-blocks12-requires c κs =
+    let b = c .before .before in
+    let a = b .before .before in
+    let i = a .before .before in
+    let xs = i .args .list .now in
+    within-three (a .load .result) (b .load2 .result) (c .load3 .result) (loaded-within 17179869180 0 xs (a .load .result) (omega arith) (i .pre .2) (a .load .ensures))
+    (loaded-within 17179869180 4 xs (b .load2 .result) (omega arith) (i .pre .2) (b .load2 .ensures))
+    (loaded-within 17179869180 8 xs (c .load3 .result) (omega arith) (i .pre .2) (c .load3 .ensures))
+
+returns-3 : tie.Need-returns-3
+returns-3 c =
+    let l = c .before in
+    let g = l .before in
+    let b = g .before in
+    let f = b .before in
+    let a = f .before in
+    let i = a .before .before in
+    let xs = i .args .list .now in
+    let e : i .args .width ≡ 12 = twelve (i .pre .0) (f .if1 .left) (g .if2 .left) in
+    rw e
+    (c .m4-blocks12 .ensures .0
+    ∙ ap (m4Blocks p) (three-from 0 xs (a .load .result) (b .load2 .result) (l .load3 .result) (a .load .ensures) (b .load2 .ensures) (l .load3 .ensures) ∙ all-of 12 xs (i .pre .1 ∙ e)))
+
+pub multiplied-spec : {M : Type 1} → statement M
+multiplied-spec =
+    tie.close
+    (tie.spec load-requires m4-blocks4-requires returns load-requires-2 m4-blocks8-requires (λ c. search needs) (λ c. search needs) returns-2 load-requires-3
+    m4-blocks12-requires returns-3)
