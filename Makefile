@@ -2,7 +2,8 @@
 # make library: proves the library for C and Rust, and writes target/staticlib/libopening_tree_c.a.
 # make test: the gate.
 # make bench: the benchmark, beside Rust (needs rustc): docs/BENCHMARK.md.
-.PHONY: run library test bench
+# make profile: the halves of M_E in a profile of the library (needs valgrind): docs/BENCHMARK.md.
+.PHONY: run library test bench profile
 
 run:
 	rt check root
@@ -16,3 +17,6 @@ test:
 
 bench:
 	bench/run.sh
+
+profile: library
+	python3 bench/profile_halves.py

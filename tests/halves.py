@@ -10,9 +10,10 @@ from collections.abc import Callable, Iterator
 from pathlib import Path
 
 REPOSITORY = Path(__file__).resolve().parent.parent
-sys.path.insert(0, str(REPOSITORY / "reference"))
+sys.path[:0] = [str(REPOSITORY / "reference"), str(REPOSITORY / "bench")]
 
 import poseidon2  # noqa: E402
+import profile_halves  # noqa: E402
 from field import P  # noqa: E402
 
 ARCHIVES = REPOSITORY / "target/staticlib"
@@ -79,11 +80,12 @@ def symbols(name: str) -> str:
 
 
 def places() -> Iterator[Check]:
-    """In the library the halves are joined with the full rounds, and only those have names; `measures` exports both."""
+    """In the library the halves are joined with the full rounds, and found there one after the other; `measures` exports both."""
     yield "functions of the layer in the library", [symbols("opening_tree_c").count("layers::external")], [0]
     for width in (4, 8, 12):
-        name = f"permutation::rounds::full_rounds{width}\n"
-        yield f"{name.strip()} in the library", [symbols("opening_tree_c").count(name)], [1]
+        sums, blocks = profile_halves.stretches(profile_halves.built(width), width)
+        yield f"t={width}: M4 is found", [min(map(len, blocks)) > 0], [True]
+        yield f"t={width}: the sums are found before it", [len(sums) > 0 and sums.stop == blocks[0].start], [width > 4]
     for name in ("measured_sums", "measured_m4_blocks"):
         yield f"{name} in measures", [symbols("measures").count(f" T {name}\n")], [1]
 

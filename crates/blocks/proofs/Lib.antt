@@ -6,3 +6,4 @@ pub mod Carries
 pub mod Round
 pub mod Turns
 pub mod Slices
+pub mod Loads

@@ -2,12 +2,11 @@
 use mathlib.Core.Path.{_≡_, refl, sym, ap, ap₂, subst, _∙_}
 use mathlib.Core.Logic.{_≢_, inl, inr}
 use mathlib.Core.List.{List, [], _++_, append-nil}
-use Prim.Native.Nat.{ℕ, suc, _+_, _*_, _%_, _<_, _≤_}
+use Prim.Native.Nat.{ℕ, suc, _+_, _*_, _%_, _≤_}
 use native.Mathlib.Nat.{add-comm, add-zero, zero-add}
 use native.Mathlib.Omega.{arith}
-use lib.Dec.{lit<}
 use lib.ListN.{length, getD, take, drop, set}
-use lib.Seq.{getD-take, getD-drop, take-all, take-take, take-add, drop-drop, drop-length, paste, paste-zero, paste-suc, take-paste, drop-paste}
+use lib.Seq.{take-all, take-take, take-add, drop-drop, drop-length, paste, paste-zero, paste-suc, take-paste, drop-paste}
 use Rattle.modular.specs.Arithmetic.{add}
 use Rattle.modular.specs.Congruence.{_≈⟨_⟩_}
 use Rattle.poseidon2.specs.Layers.{addLists}
@@ -17,7 +16,6 @@ use Rattle.poseidon2.specs.Compression.{compress}
 use Rattle.poseidon2.specs.Statements.{Width, Words}
 use Rattle.poseidon2.proofs.Places.{add-at, addLists-take}
 use Rattle.blocks.specs.Blocks.{four}
-use Rattle.blocks.specs.Halves.{Within}
 use Rattle.blocks.proofs.Lists.{four-eq, append-eq, addLists-append}
 
 pub sum-of-words : {p : ℕ} (x y : ℕ) {b s r : ℕ} → b ≡ x % p → s ≈⟨ p ⟩ y + b → r ≡ s % p → r ≡ add p (x % p) y
@@ -148,12 +146,3 @@ next-block d F b k e h g =
     let beyond : drop (k + 4) (paste d 0 F k) ≡ drop (0 + (k + 4)) d =
     sym (drop-drop 4 k (paste d 0 F k)) ∙ ap (drop 4) rest ∙ drop-drop 4 k d ∙ ap (λ (m : ℕ). drop m d) (sym (zero-add (k + 4))) in
     ap₂ (λ (ys zs : List ℕ). ys ++ zs) (append-eq front e ∙ sym (take-add k 4 F)) beyond
-
--- ---- blocks that are read from a list
-
--- numbers that are below a bound are within the number before it
-pub loaded-within : {m : ℕ} (n at : ℕ) (xs r : List ℕ) → m ≤ n + 1 → Words m xs → four r ≡ take 4 (drop at xs) → Within n r
-loaded-within {m} n at xs r h w e = record { at0 = word 0 (lit< tt); at1 = word 1 (lit< tt); at2 = word 2 (lit< tt); at3 = word 3 (lit< tt) }
-  where
-    word : (i : ℕ) → i < 4 → getD (four r) i 0 ≤ n
-    word i b = omega (arith, h, ap (λ (ys : List ℕ). getD ys i 0) e ∙ getD-take 4 (drop at xs) i 0 b ∙ getD-drop at xs i 0, w .at (at + i))

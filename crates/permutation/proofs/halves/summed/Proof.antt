@@ -3,17 +3,14 @@ use native.Mathlib.Omega.{arith}
 use Rattle.modular.specs.Goldilocks.{p}
 use Rattle.poseidon2.specs.Layers.{sums}
 use Rattle.poseidon2.proofs.SumsFirst.{block-alone}
-use Rattle.blocks.proofs.External.{within-two, within-three}
-use Rattle.blocks.proofs.Slices.{all-of, twelve, width-some, width-more, loaded-within}
-use Rattle.blocks.proofs.Turns.{two-from, three-from}
+use Rattle.blocks.proofs.Slices.{all-of, twelve, width-some, width-more}
+use Rattle.blocks.proofs.Loads.{two-loaded, three-loaded, two-within, three-within}
 use borrow.Author.Needs.{needs}
 use Rattle.permutation.proofs.halves.summed.Statement.{statement}
 use Rattle.permutation.proofs.halves.summed.Tie as tie
 
 load-requires : tie.Need-load-requires
-load-requires c κs =
-    let i = c .before in
-    omega (arith, i .pre .1, width-some (i .pre .0))
+load-requires c κs = omega (arith, c .before .pre .1, width-some (c .before .pre .0))
 
 -- a block alone stays
 returns : tie.Need-returns
@@ -34,20 +31,16 @@ sums8-requires c κs =
     let b = c .before in
     let a = b .before .before in
     let i = a .before .before in
-    let xs = i .args .list .now in
-    within-two (a .load .result) (b .load2 .result) (loaded-within 4294967295 0 xs (a .load .result) (omega arith) (i .pre .2) (a .load .ensures))
-    (loaded-within 4294967295 4 xs (b .load2 .result) (omega arith) (i .pre .2) (b .load2 .ensures))
+    two-within 4294967295 (omega arith) (i .args .list .now) (i .pre .2) (a .load .result) (b .load2 .result) (a .load .ensures) (b .load2 .ensures)
 
 returns-2 : tie.Need-returns-2
 returns-2 c =
     let r = c .before .before in
-    let t = r .before in
-    let b = t .before in
+    let b = r .before .before in
     let a = b .before .before in
     let i = a .before .before in
-    let xs = i .args .list .now in
-    let e : i .args .width ≡ 8 = t .if2 .taken in
-    rw e (r .sums8 .ensures .0 ∙ ap (sums p) (two-from 0 xs (a .load .result) (b .load2 .result) (a .load .ensures) (b .load2 .ensures) ∙ all-of 8 xs (i .pre .1 ∙ e)))
+    let e : i .args .width ≡ 8 = r .before .if2 .taken in
+    rw e (r .sums8 .ensures .0 ∙ ap (sums p) (two-loaded (i .args .list .now) (a .load .result) (b .load2 .result) (i .pre .1 ∙ e) (a .load .ensures) (b .load2 .ensures)))
 
 load-requires-3 : tie.Need-load-requires-3
 load-requires-3 c κs =
@@ -60,24 +53,18 @@ sums12-requires c κs =
     let b = c .before .before in
     let a = b .before .before in
     let i = a .before .before in
-    let xs = i .args .list .now in
-    within-three (a .load .result) (b .load2 .result) (c .load3 .result) (loaded-within 4294967295 0 xs (a .load .result) (omega arith) (i .pre .2) (a .load .ensures))
-    (loaded-within 4294967295 4 xs (b .load2 .result) (omega arith) (i .pre .2) (b .load2 .ensures))
-    (loaded-within 4294967295 8 xs (c .load3 .result) (omega arith) (i .pre .2) (c .load3 .ensures))
+    three-within 4294967295 (omega arith) (i .args .list .now) (i .pre .2) (a .load .result) (b .load2 .result) (c .load3 .result) (a .load .ensures) (b .load2 .ensures) (c .load3 .ensures)
 
 returns-3 : tie.Need-returns-3
 returns-3 c =
     let l = c .before in
-    let g = l .before in
-    let b = g .before in
-    let f = b .before in
-    let a = f .before in
+    let b = l .before .before in
+    let a = b .before .before in
     let i = a .before .before in
-    let xs = i .args .list .now in
-    let e : i .args .width ≡ 12 = twelve (i .pre .0) (f .if1 .left) (g .if2 .left) in
+    let e : i .args .width ≡ 12 = twelve (i .pre .0) (b .before .if1 .left) (l .before .if2 .left) in
     rw e
     (c .sums12 .ensures .0
-    ∙ ap (sums p) (three-from 0 xs (a .load .result) (b .load2 .result) (l .load3 .result) (a .load .ensures) (b .load2 .ensures) (l .load3 .ensures) ∙ all-of 12 xs (i .pre .1 ∙ e)))
+    ∙ ap (sums p) (three-loaded (i .args .list .now) (a .load .result) (b .load2 .result) (l .load3 .result) (i .pre .1 ∙ e) (a .load .ensures) (b .load2 .ensures) (l .load3 .ensures)))
 
 pub summed-spec : {M : Type 1} → statement M
 summed-spec =
