@@ -6,7 +6,7 @@ use lib.ListN.{take}
 use Rattle.modular.specs.Arithmetic.{add, pow}
 use Rattle.modular.specs.Congruence.{_≈⟨_⟩_}
 use Rattle.modular.proofs.Congruence.{refl≈, add≈, mul≈, mod≈}
-use Rattle.poseidon2.specs.Layers.{addLists, dot, rowsTimes, m4, blocks, joinBlocks, mixed, external, m4Blocks, internal}
+use Rattle.poseidon2.specs.Layers.{addLists, dot, rowsTimes, m4, blocks, joinBlocks, mixed, external, internal}
 use Rattle.poseidon2.specs.Rounds.{addConstants, fullRound, seventhPowers, raiseFirst, partialRound, permuteAt, permute}
 use Rattle.poseidon2.specs.Compression.{compress}
 use Rattle.poseidon2.specs.Residues.{residues}
@@ -42,10 +42,6 @@ module _ (p : ℕ) where
   pub external-residues : (xs : List ℕ) → external p (residues p xs) ≡ external p xs
   unfolding external
   external-residues xs = ap (λ (bs : List (List ℕ)). joinBlocks (mixed p bs)) (m4-blocks-residues xs)
-
-  pub m4Blocks-residues : (xs : List ℕ) → m4Blocks p (residues p xs) ≡ m4Blocks p xs
-  unfolding m4Blocks
-  m4Blocks-residues xs = ap joinBlocks (m4-blocks-residues xs)
 
   pub fullRound-residues : (cs xs : List ℕ) → fullRound p cs (residues p xs) ≡ fullRound p cs xs
   unfolding fullRound addConstants
