@@ -37,7 +37,7 @@ def loaded(name: str) -> ctypes.CDLL:
     return ctypes.CDLL(str(shared))
 
 
-def half(function: ctypes._CFuncPtr) -> Callable[[Words], Words]:
+def half(function: Callable[..., None]) -> Callable[[Words], Words]:
     """A half, from numbers to numbers."""
 
     def called(numbers: Words) -> Words:
