@@ -1,2 +1,2 @@
 -- What holds where nothing is refused.
-mod AcceptedChanges
+pub mod AcceptedChanges

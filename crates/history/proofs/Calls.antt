@@ -2,7 +2,7 @@
 use mathlib.Core.Path.{_≡_, refl, sym, ap, ap₂, _∙_}
 use mathlib.Core.Bool.{Bool, true, false, not, _&&_}
 use mathlib.Core.List.{List, [], _∷_, _++_}
-use Prim.Native.Nat.{ℕ, suc, _+_, _*_}
+use Prim.Native.Nat.{ℕ}
 use lib.ListN.{length}
 use borrow.Author.Tests.{eq-eqb}
 use Rattle.modular.specs.Arithmetic.{allWords}
@@ -13,7 +13,9 @@ use Rattle.refusals.proofs.LengthsPlacesAndWords as three
 use Rattle.parameters.specs.declared.ParameterSet.{ParameterSet}
 use Rattle.parameters.specs.ParameterSet.{primeOf, setRefusals}
 use Rattle.parameters.proofs.Accepted.{set-numbered}
+use Rattle.merkle.specs.Above.{nodesAbove}
 use Rattle.merkle.specs.Openings.{opening}
+use Rattle.merkle.specs.Replacement as merkle
 use Rattle.merkle.specs.Statements.{Replaced, Proper, Pushed}
 use Rattle.repeats.specs.Repeats.{repeats}
 use Rattle.trees.specs.SetTrees.{treeOf, leafCount, storeWords}
@@ -23,6 +25,7 @@ use Rattle.change_entries.specs.Replacement.{replaceRefusals, replaceReply, rep
 use Rattle.change_entries.specs.Replacement as entry
 use Rattle.pushes.specs.declared.record.Record.{Record}
 use Rattle.pushes.specs.Records.{changesOf, placesOf, placesBelow, usedWords, SixWords}
+use Rattle.pushes.proofs.Changes.{changes-places}
 use Rattle.push_entries.specs.Pushes.{fewRecords, pushRefusals, pushing, pushReply, pushed}
 use Rattle.history.specs.LeafBook.{Call, replacement, push, bookRefusals, bookCount, bookReply, entered, bookAfter}
 use Rattle.history.specs.History.{callReply, callStore}
@@ -98,17 +101,12 @@ module _ (s : ParameterSet) (valid : firstRefusal (setRefusals s) ≡ 0) where
   proper [] F = tt
   proper (r ∷ rs) F = (first-inside s valid r rs F, leaf-fits s valid r (F .sixes .0), proper rs (rest-fits s valid r rs F))
 
-  length-changes : (rs : List Record) → length (changesOf (s .«node_size») rs) ≡ length rs
-  unfolding changesOf
-  length-changes [] = refl
-  length-changes (r ∷ rs) = ap suc (length-changes rs)
-
   module _ (xs : List ℕ) (L : Leaves s xs) (rs : List Record) (sixes : SixWords rs) where
     works : Fit s rs → Pushed (treeOf s) (s .height) (changesOf (s .«node_size») rs) xs
     works F = laws s valid .pushed (s .height) (changesOf (s .«node_size») rs) xs (L .long) (proper rs F)
 
     pub push-follows : Follows s (push rs) xs
-    unfolding callReply callStore bookRefusals bookCount entered pushRefusals pushReply pushed
+    unfolding callReply callStore bookRefusals bookCount entered pushRefusals pushReply pushed merkle.push
     push-follows =
         let c : Call = push rs in
         let S = treeOf s in
@@ -117,11 +115,11 @@ module _ (s : ParameterSet) (valid : firstRefusal (setRefusals s) ≡ 0) where
         (eq-eqb (length (storeOf s xs)) (storeWords s) (store-long s valid xs L))
         (store-words s valid xs L) in
         let answer = agreed c xs L (pushRefusals s (storeOf s xs) rs) (pushing s (storeOf s xs) rs .made) rows
-        (λ z. works (fit s rs sixes z) .counted ∙ ap (λ (n : ℕ). s .height * n) (length-changes rs)) in
+        (λ z. ap (nodesAbove (treeOf s .arity) (s .height)) (changes-places (s .«node_size») rs)) in
         record {
           answers = answer;
           store =
               left c xs L (pushReply s (storeOf s xs) rs) (pushing s (storeOf s xs) rs .store) answer
-              (λ z. works (fit s rs sixes z) .stored ∙ ap (storeOf s) (changed-entered s valid rs xs));
+              (λ z. works (fit s rs sixes z) ∙ ap (storeOf s) (changed-entered s valid rs xs));
           leaves = push-leaves s valid xs L rs sixes;
         }

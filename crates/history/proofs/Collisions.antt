@@ -7,6 +7,7 @@ use Prim.Native.Nat.{ℕ}
 use lib.ListN.{length}
 use Rattle.modular.proofs.Words.{left-true, and-true}
 use Rattle.refusals.specs.Table.{firstRefusal, done}
+use Rattle.refusals.proofs.Table.{reply-none}
 use Rattle.parameters.specs.declared.ParameterSet.{ParameterSet}
 use Rattle.parameters.specs.ParameterSet.{setRefusals}
 use Rattle.merkle.specs.Openings.{accepts}
@@ -17,7 +18,6 @@ use Rattle.extraction_entries.specs.Statements.{Collides}
 use Rattle.extraction_entries.proofs.AcceptedPairs.{Paired, pair-passes}
 use Rattle.extraction_entries.proofs.Extracted.{paired, both}
 use Rattle.extraction_entries.proofs.Statements.{extracting}
-use Rattle.history.proofs.Replies.{reply-none}
 use Rattle.history.proofs.Openings.{Offered, offered, verdict}
 
 module _ (s : ParameterSet) (valid : firstRefusal (setRefusals s) ≡ 0) (top : List ℕ) (q : ℕ) (a x b y first second : List ℕ) where

@@ -10,7 +10,7 @@ use borrow.Author.Tests.{ltb-true, lt-ltb, eq-eqb, not-false}
 use Rattle.modular.specs.Arithmetic.{allWords}
 use Rattle.modular.proofs.Words.{and-true, words-left, words-right, words-drop}
 use Rattle.refusals.specs.Table.{firstRefusal, done}
-use Rattle.refusals.proofs.Table.{reply-done, written-after}
+use Rattle.refusals.proofs.Table.{reply-done, written-after, reply-none, reply-result}
 use Rattle.refusals.proofs.LengthsPlacesAndWords as three
 use Rattle.parameters.specs.declared.ParameterSet.{ParameterSet}
 use Rattle.parameters.specs.ParameterSet.{primeOf, setRefusals}
@@ -24,7 +24,6 @@ use Rattle.tree_entries.proofs.AcceptedTrees.{open-numbered, verify-numbered, v
 use Rattle.extraction_entries.proofs.AcceptedPairs.{Opening, verify-passes}
 use Rattle.history.specs.LeafBook.{leafAt}
 use Rattle.history.specs.Demand3.{rootOf}
-use Rattle.history.proofs.Replies.{reply-none, reply-result}
 use Rattle.history.proofs.Sets.{storeOf, Leaves, words, store-long, store-words, leaf-long, leaf-words}
 
 -- what an accepted verdict was handed

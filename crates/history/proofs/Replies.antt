@@ -6,28 +6,9 @@ use native.Mathlib.Omega.{arith}
 use Rattle.refusals.specs.Table.{Refusal, firstRefusal, Reply, refused, done, reply, after}
 use Rattle.refusals.proofs.Table.{Numbered, reply-refused, reply-done, first-back, kept-after, written-after}
 
-abbrev isDone : Reply → Type 0
-isDone (refused n) = ⊥
-isDone (done result) = Unit {0}
-
-abbrev resultOf : Reply → List ℕ
-resultOf (refused n) = []
-resultOf (done result) = result
-
 pub no-row : firstRefusal [] ≡ 0
 unfolding firstRefusal
 no-row = refl
-
--- a reply that is a result: nothing was refused
-pub reply-none : (rows : List Refusal) (result xs : List ℕ) → reply rows result ≡ done xs → firstRefusal rows ≡ 0
-reply-none rows result xs e = go (firstRefusal rows) refl
-  where
-    go : (n : ℕ) → firstRefusal rows ≡ n → firstRefusal rows ≡ 0
-    go zero f = f
-    go (suc n) f = absurd (subst isDone (sym e ∙ reply-refused rows result (λ z. absurd (omega arith))) tt)
-
-pub reply-result : (rows : List Refusal) (result xs : List ℕ) → Numbered rows → reply rows result ≡ done xs → result ≡ xs
-reply-result rows result xs N e = ap resultOf (sym (reply-done rows result N (reply-none rows result xs e)) ∙ e)
 
 -- refusals in front that do not apply, and results that are the same where none applies
 pub same-reply : (front rows : List Refusal) (a b : List ℕ) → Numbered front → firstRefusal front ≡ 0 → Numbered rows → Numbered (front ++ rows)

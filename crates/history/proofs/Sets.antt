@@ -9,7 +9,7 @@ use borrow.Author.Tests.{eq-eqb}
 use Rattle.modular.specs.Arithmetic.{allWords}
 use Rattle.modular.proofs.Words.{and-true}
 use Rattle.refusals.specs.Table.{firstRefusal, done}
-use Rattle.refusals.proofs.Table.{reply-done, written-after}
+use Rattle.refusals.proofs.Table.{reply-done, written-after, reply-none}
 use Rattle.refusals.proofs.LengthsAndWords as two
 use Rattle.parameters.specs.declared.ParameterSet.{ParameterSet}
 use Rattle.parameters.specs.ParameterSet.{primeOf, setRefusals}
@@ -25,7 +25,6 @@ use Rattle.tree_entries.specs.Trees.{has, buildRefusals, buildReply, built}
 use Rattle.trees.proofs.SetTrees.{valid-numbers, shape-regular, laws}
 use Rattle.tree_entries.proofs.AcceptedTrees.{build-numbered, build-passed}
 use Rattle.history.specs.LeafBook.{leafAt}
-use Rattle.history.proofs.Replies.{reply-none}
 
 module _ (s : ParameterSet) (valid : firstRefusal (setRefusals s) ≡ 0) where
   -- a leaf has room in a record (Rules 5.3)

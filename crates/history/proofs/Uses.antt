@@ -9,7 +9,7 @@ use lib.ListN.{length, replicate, length-replicate}
 use borrow.Author.Tests.{eq-eqb, le-leb, lt-ltb}
 use Rattle.modular.specs.Arithmetic.{allWords}
 use Rattle.refusals.specs.Table.{refusal, firstRefusal, Reply, refused, done}
-use Rattle.refusals.proofs.Table.{none, refusal-applies, refusal-passes, first-back, reply-refused, reply-done, kept-after}
+use Rattle.refusals.proofs.Table.{none, refusal-applies, refusal-passes, first-back, reply-refused, reply-done, kept-after, reply-none}
 use Rattle.refusals.proofs.LengthsPlacesAndWords as three
 use Rattle.parameters.specs.ParameterSet.{primeOf}
 use Rattle.parameters.specs.declared.ParameterSet.{ParameterSet}
@@ -20,6 +20,7 @@ use Rattle.trees.proofs.SetTrees.{laws}
 use Rattle.pushes.specs.declared.record.Record.{Record}
 use Rattle.pushes.specs.Records.{placesOf, placesBelow, usedWords, SixWords}
 use Rattle.push_entries.specs.Pushes.{fewRecords}
+use Rattle.push_entries.proofs.Statements.{few-nodes}
 use Rattle.extraction_entries.specs.Extraction.{Pair, extractRefusals, collision, levelOf, extractReply, extractedFirst, extractedSecond}
 use Rattle.extraction_entries.specs.Statements.{IsRow}
 use Rattle.extraction_entries.proofs.Statements.{written}
@@ -28,7 +29,7 @@ use Rattle.history.specs.History.{run}
 use Rattle.history.specs.Demand3.{Typed, rootOf}
 use Rattle.history.specs.Uses.{RootOfBook, Counts, RepeatStops, OwnAccepted, OtherCollides, OnlyAccepted, Uses}
 use Rattle.history.proofs.Sets.{begun}
-use Rattle.history.proofs.Replies.{no-row, reply-none}
+use Rattle.history.proofs.Replies.{no-row}
 use Rattle.history.proofs.Book.{book-numbered}
 use Rattle.history.proofs.Demand3.{demand3}
 
@@ -66,9 +67,11 @@ counts s leaves blank e rs sixes few places used once q leaf long inside wordy =
     ∙ refusal-passes 17 (repeats (placesOf rs)) [] once ∙ no-row in
     let b : firstRefusal (bookRefusals s (replacement q leaf)) ≡ 0 =
     three.at-words (primeOf s) [] none (not (has leaf (s .«node_size»))) (not (ltb q (leafCount s))) leaf no-row (ap not (eq-eqb (length leaf) (s .«node_size») long)) (ap not (lt-ltb q (leafCount s) inside))
-    ∙ three.no-twelve (primeOf s) leaf wordy in
-    demand3 s leaves blank e (push rs ∷ replacement q leaf ∷ []) (sixes, tt) .answered
-    ∙ ap₂ (λ (x y : Reply). x ∷ y ∷ []) (counted s (push rs) a) (counted s (replacement q leaf) b)
+    ∙ three.no-twelve (primeOf s) leaf wordy in (
+      demand3 s leaves blank e (push rs ∷ replacement q leaf ∷ []) (sixes, tt) .answered
+          ∙ ap₂ (λ (x y : Reply). x ∷ y ∷ []) (counted s (push rs) a) (counted s (replacement q leaf) b),
+      few-nodes s (begun s leaves blank e .set) rs,
+    )
 
 -- ---- a place twice in a push
 

@@ -7,9 +7,10 @@ use lib.ListN.{length}
 use Rattle.refusals.specs.Table.{Refusal, refusal, notWords, Reply, reply, after}
 use Rattle.parameters.specs.ParameterSet.{primeOf}
 use Rattle.parameters.specs.declared.ParameterSet.{ParameterSet}
+use Rattle.merkle.specs.Above.{nodesAbove}
 use Rattle.merkle.specs.Lists.{part, put}
 use Rattle.repeats.specs.Repeats.{repeats}
-use Rattle.trees.specs.SetTrees.{leafCount}
+use Rattle.trees.specs.SetTrees.{treeOf, leafCount}
 use Rattle.tree_entries.specs.Trees.{has}
 use Rattle.pushes.specs.declared.record.Record.{Record}
 use Rattle.pushes.specs.Records.{leafOf, placesOf, placesBelow, usedWords}
@@ -32,7 +33,7 @@ unfoldable pub enterAll : ParameterSet → List Record → List ℕ → List ℕ
 enterAll s [] book = book
 enterAll s (r ∷ rs) book = enterAll s rs (enter s (r .place) (leafOf (s .«node_size») r) book)
 
--- Nothing here has a store or an entry's answer for an argument (Rules 6.3). Of the set, l, k^h and h are read.
+-- Nothing here has a store or an entry's answer for an argument (Rules 6.3). Of the set, l, k and h are read.
 module _ (s : ParameterSet) where
   -- What the book refuses: of a replacement its leaf's length, its place and its leaf's words (Rules 6.4); of a push its length, its places,
   -- its leaves' words, and a place that it has twice (Rules 6.5).
@@ -47,14 +48,14 @@ module _ (s : ParameterSet) where
       notWords (primeOf s) (usedWords (s .«node_size») rs) ∷
       refusal 17 (repeats (placesOf rs)) ∷ []
 
-  -- What it enters where it refuses nothing, and what it then answers: h for each leaf.
+  -- What it enters where it refuses nothing, and what it then answers: h for a replacement, and for a push the different nodes above its places.
   unfoldable pub entered : Call → List ℕ → List ℕ
   entered (replacement q leaf) book = enter s q leaf book
   entered (push rs) book = enterAll s rs book
 
   unfoldable pub bookCount : Call → ℕ
   bookCount (replacement q leaf) = s .height
-  bookCount (push rs) = s .height * length rs
+  bookCount (push rs) = nodesAbove (treeOf s .arity) (s .height) (placesOf rs)
 
   unfoldable pub bookReply : Call → Reply
   bookReply c = reply (bookRefusals c) (bookCount c ∷ [])

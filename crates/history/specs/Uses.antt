@@ -9,6 +9,7 @@ use Rattle.modular.specs.Arithmetic.{allWords}
 use Rattle.refusals.specs.Table.{refused, done}
 use Rattle.parameters.specs.ParameterSet.{primeOf}
 use Rattle.parameters.specs.declared.ParameterSet.{ParameterSet}
+use Rattle.merkle.specs.Above.{nodesAbove}
 use Rattle.merkle.specs.Storeless.{storelessRoot}
 use Rattle.repeats.specs.Repeats.{repeats}
 use Rattle.state_entries.specs.Permutation.{compressUnder}
@@ -32,14 +33,16 @@ AfterCalls P =
 abbrev pub RootOfBook : Type 0
 RootOfBook = AfterCalls (λ s left book. rootOf s (left .store) ≡ storelessRoot (treeOf s) (s .height) book)
 
--- A push that nothing refuses answers h for each record, and a replacement h.
+-- A push that nothing refuses answers the number of different nodes above its places, which is at most h for each record, and a replacement h.
 abbrev pub Counts : Type 0
 Counts =
     (s : ParameterSet) (leaves buffer : List ℕ) → buildReply s leaves buffer ≡ done []
     → (rs : List Record) → SixWords rs → length rs ≤ 2 ^ 32 → placesBelow (leafCount s) rs ≡ true → allWords (primeOf s) (usedWords (s .«node_size») rs) ≡ true
     → repeats (placesOf rs) ≡ false
     → (q : ℕ) (leaf : List ℕ) → length leaf ≡ s .«node_size» → q < leafCount s → allWords (primeOf s) leaf ≡ true
-    → run s (push rs ∷ replacement q leaf ∷ []) (built s leaves buffer) .answers ≡ done (s .height * length rs ∷ []) ∷ done (s .height ∷ []) ∷ []
+    → (run s (push rs ∷ replacement q leaf ∷ []) (built s leaves buffer) .answers
+    ≡ done (nodesAbove (treeOf s .arity) (s .height) (placesOf rs) ∷ []) ∷ done (s .height ∷ []) ∷ [])
+    × (nodesAbove (treeOf s .arity) (s .height) (placesOf rs) ≤ s .height * length rs)
 
 -- A push that has a place twice, and nothing else against it, changes nothing in a list of calls, wherever it stands there: the store is the one
 -- that the others leave without it, and to their answers, the book's, it adds 17.

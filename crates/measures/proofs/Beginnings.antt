@@ -20,10 +20,11 @@ module _ (s : ParameterSet) (n m : ℕ) (P : Pushable s n m) where
     places = λ z. P .places;
     keeps = λ z few. omega (arith, leb-true m keepable (right-true (eqb repeats 1) (leb m keepable) few));
     counts = omega (arith, P .count);
+    rank = λ z. absurd (omega (arith, z));
     low = lit< tt;
   }
 
-  pub search-asks : Going s 2 (replicate mapWords 0) (beginning n false false) m
+  pub search-asks : Going s 3 (replicate mapWords 0) (beginning n false false) m
   unfolding roomOf
   search-asks = record {
     accepted = λ z. P .accepted;
@@ -31,5 +32,6 @@ module _ (s : ParameterSet) (n m : ℕ) (P : Pushable s n m) where
     places = λ z. P .places;
     keeps = λ z few. absurd (false≢true few);
     counts = omega (arith, P .count);
+    rank = λ z. absurd (omega (arith, z));
     low = lit< tt;
   }

@@ -15,7 +15,21 @@ use Rattle.pushes.specs.Passes.{pass, keepable, eachOf, searchOf}
 
 -- a tally at the beginning: whether the places rise so far, and whether they are few enough to be compared
 abbrev pub beginning : ℕ → Bool → Bool → Tally
-beginning n rising few = record { number = 0; places = n; placed = true; words = true; distinct = true; rising = rising; above = 0; few = few; kept = 0; made = 0 }
+beginning n rising few = record {
+  number = 0;
+  places = n;
+  placed = true;
+  words = true;
+  distinct = true;
+  rising = rising;
+  above = 0;
+  few = few;
+  kept = 0;
+  levels = 0;
+  before = 0;
+  under = 0;
+  made = 0;
+}
 
 -- 1 where nothing was found against the records
 unfoldable pub found : Tally → ℕ

@@ -22,6 +22,9 @@ fn beginning(places: u64, rising: bool, few: bool) -> Tally
         above: 0,
         few: few,
         kept: 0,
+        levels: 0,
+        before: 0,
+        under: 0,
         made: 0,
     }
 }

@@ -1,11 +1,11 @@
--- Laws of parts, of a part put in place of another, of joined lists, of the tests on lists, and of the lowest number that a test accepts.
+-- Laws of parts, of a part put in place of another, of joined lists, of sums, of the tests on lists, and of the lowest number that a test accepts.
 use mathlib.Core.Path.{_≡_, refl, sym, ap, _∙_}
 use mathlib.Core.Logic.{_≢_}
 use mathlib.Core.Bool.{Bool, true, false, _&&_, cond, false≢true, true≢false}
 use mathlib.Core.List.{List, [], _∷_, _++_, append-assoc, append-nil}
 use mathlib.Core.Option.{Option, none, some}
 use Prim.Native.Nat.{ℕ, zero, suc, _+_, _*_, _-_, _≤_, _<_}
-use native.Mathlib.Nat.{add-suc, add-zero, suc-mul, zero-mul}
+use native.Mathlib.Nat.{add-suc, add-zero, suc-mul, zero-mul, mul-zero}
 use native.Mathlib.Decide.{decLt}
 use native.Mathlib.Omega.{arith}
 use lib.Dec.{ltb, eqb}
@@ -14,7 +14,7 @@ use lib.Seq.{take-at, drop-at, take-append-le, drop-append-le, take-append-add, 
 use borrow.Author.Tests.{ltb-true, lt-ltb, eqb-true, eq-eqb}
 use Rattle.modular.specs.Arithmetic.{isWord, allWords}
 use Rattle.modular.proofs.Words.{words-append, words-take, words-drop, and-true, left-true, right-true}
-use Rattle.merkle.specs.Lists.{part, put, joined, same, orElse, lowest}
+use Rattle.merkle.specs.Lists.{part, put, joined, sum, same, orElse, lowest}
 
 -- ---- parts
 
@@ -198,7 +198,52 @@ joined-parts i m xs (suc n) =
     ∙ sym (take-add (n * m) m (drop i xs))
     ∙ ap (λ (a : ℕ). take a (drop i xs)) (sym (suc-mul n m))
 
+-- ---- sums
+
+pub sum-same : (f g : ℕ → ℕ) (n : ℕ) → ((i : ℕ) → i < n → f i ≡ g i) → sum f n ≡ sum g n
+unfolding sum
+sum-same f g zero e = refl
+sum-same f g (suc n) e = omega (arith, sum-same f g n (λ i b. e i (omega arith)), e n (omega arith))
+
+pub sum-most : (f : ℕ → ℕ) (m n : ℕ) → ((i : ℕ) → i < n → f i ≤ m) → sum f n ≤ n * m
+unfolding sum
+sum-most f m zero b = omega (arith, zero-mul m)
+sum-most f m (suc n) b = omega (arith, sum-most f m n (λ i c. b i (omega arith)), b n (omega arith), suc-mul n m)
+
+pub sum-zero : (f : ℕ → ℕ) (n : ℕ) → ((i : ℕ) → i < n → f i ≡ 0) → sum f n ≡ 0
+sum-zero f n e = omega (arith, sum-most f 0 n (λ i b. omega (arith, e i b)), mul-zero n)
+
+pub sum-ones : (n : ℕ) → sum (λ i. 1) n ≡ n
+unfolding sum
+sum-ones zero = refl
+sum-ones (suc n) = omega (arith, sum-ones n)
+
+pub sum-add : (f : ℕ → ℕ) (m n : ℕ) → sum f (m + n) ≡ sum f m + sum (λ i. f (m + i)) n
+unfolding sum
+sum-add f m zero = let e : sum f (m + 0) ≡ sum f m = ap (sum f) (add-zero m) in omega arith
+sum-add f m (suc n) =
+    let e : sum f (m + suc n) ≡ sum f (suc (m + n)) = ap (sum f) (add-suc m n) in
+    omega (arith, sum-add f m n)
+
+sum-next : (f : ℕ → ℕ) (n : ℕ) → sum f (suc n) ≡ sum f n + f n
+unfolding sum
+sum-next f n = refl
+
+-- two that differ in number r alone, and there by one
+pub sum-fewer : (f g : ℕ → ℕ) (r n : ℕ) → r < n → ((i : ℕ) → i < n → i ≢ r → f i ≡ g i) → f r ≡ suc (g r) → sum f n ≡ suc (sum g n)
+sum-fewer f g r n b e d =
+    let at : n ≡ suc r + (n - suc r) = omega arith in
+    let before : sum f r ≡ sum g r = sum-same f g r (λ i c. e i (omega arith) (λ z. absurd (omega arith))) in
+    let behind : sum (λ i. f (suc r + i)) (n - suc r) ≡ sum (λ i. g (suc r + i)) (n - suc r) =
+    sum-same (λ i. f (suc r + i)) (λ i. g (suc r + i)) (n - suc r) (λ i c. e (suc r + i) (omega arith) (λ z. absurd (omega arith))) in
+    omega (arith, ap (sum f) at, ap (sum g) at, sum-add f (suc r) (n - suc r), sum-add g (suc r) (n - suc r), sum-next f r, sum-next g r)
+
 -- ---- tests
+
+pub same-test : (a b : Bool) → (a ≡ true → b ≡ true) → (b ≡ true → a ≡ true) → a ≡ b
+same-test true b f g = sym (f refl)
+same-test false true f g = g refl
+same-test false false f g = refl
 
 pub same-refl : (xs : List ℕ) → same xs xs ≡ true
 unfolding same

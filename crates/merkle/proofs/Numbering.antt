@@ -51,32 +51,37 @@ module _ (S : Shape) (G : Regular S) where
   unfolding inner
   in-rows h = omega (arith, nodes-rows h h (omega arith), before-next S G h h, count-root S G h, nodes-above h h)
 
-  -- row n stands before node w + n
-  pub row-before : (h n : ℕ) → n < inner S h → n * (k * l) + k * l ≤ (k ^ h + n) * l
-  row-before h n b =
+  -- row n and its nodes stand before node w + n
+  pub nodes-of-row : (h n : ℕ) → n < inner S h → suc n * k ≤ k ^ h + n
+  nodes-of-row h n b =
       let d : ℕ = inner S h - suc n in
       let e : inner S h ≡ suc n + d = omega arith in
       let f : k * inner S h ≡ k * suc n + k * d = ap (λ (a : ℕ). k * a) e ∙ mul-add k (suc n) d in
       let g : d * 1 ≤ d * k = mul-le-mul-left d (some-arity S G) in
-      let i : suc n * k ≤ k ^ h + n = omega (arith, in-rows h, mul-one d, mul-comm k (suc n), mul-comm d k) in
-      omega (arith, mul-le-mul-right l i, mul-assoc (suc n) k l, suc-mul n (k * l))
+      omega (arith, in-rows h, mul-one d, mul-comm k (suc n), mul-comm d k)
+
+  pub row-before : (h n : ℕ) → n < inner S h → n * (k * l) + k * l ≤ (k ^ h + n) * l
+  row-before h n b = omega (arith, mul-le-mul-right l (nodes-of-row h n b), mul-assoc (suc n) k l, suc-mul n (k * l))
 
   pub node-inside : (h n : ℕ) → n < inner S h → (k ^ h + n) * l + l ≤ size S h
   node-inside h n b =
       let c : k ^ h + n < k ^ h + inner S h = omega arith in
       omega (arith, fits l (k ^ h + inner S h) (k ^ h + n) c, size-inner h)
 
-  rows-monotone : (h j d : ℕ) → rowsBefore S h j ≤ rowsBefore S h (j + d)
-  rows-monotone h j zero = let e : rowsBefore S h (j + 0) ≡ rowsBefore S h j = ap (rowsBefore S h) (add-zero j) in omega arith
-  rows-monotone h j (suc d) =
+  rows-further : (h j d : ℕ) → rowsBefore S h j ≤ rowsBefore S h (j + d)
+  rows-further h j zero = let e : rowsBefore S h (j + 0) ≡ rowsBefore S h j = ap (rowsBefore S h) (add-zero j) in omega arith
+  rows-further h j (suc d) =
       let e : rowsBefore S h (j + suc d) ≡ rowsBefore S h (suc (j + d)) = ap (rowsBefore S h) (add-suc j d) in
-      omega (arith, rows-monotone h j d, rows-next h (j + d))
+      omega (arith, rows-further h j d, rows-next h (j + d))
+
+  pub rows-rise : (h i j : ℕ) → i ≤ j → rowsBefore S h i ≤ rowsBefore S h j
+  rows-rise h i j b =
+      let e : rowsBefore S h j ≡ rowsBefore S h (i + (j - i)) = let f : j ≡ i + (j - i) = omega arith in ap (rowsBefore S h) f in
+      omega (arith, rows-further h i (j - i))
 
   pub number-inner : (h j i : ℕ) → j < h → i < count S h (suc j) → rowsBefore S h j + i < inner S h
   unfolding inner
-  number-inner h j i b c =
-      let e : rowsBefore S h h ≡ rowsBefore S h (suc j + (h - suc j)) = let f : h ≡ suc j + (h - suc j) = omega arith in ap (rowsBefore S h) f in
-      omega (arith, rows-next h j, rows-monotone h (suc j) (h - suc j))
+  number-inner h j i b c = omega (arith, rows-next h j, rows-rise h (suc j) h b)
 
   -- ---- rows and nodes by number
 
@@ -215,9 +220,9 @@ module _ (S : Shape) (G : Regular S) where
   -- ---- the climb and the opening
 
   module _ (h q : ℕ) (inside : q < k ^ h) where
-    refusal-of : (j f : ℕ) → j < h → f ≡ nodesBefore S h j + over S q j → f / k ≡ rowsBefore S h j + over S q (suc j)
-    refusal-of j f b e =
-        ap (λ (a : ℕ). a / k) (e ∙ ap (λ (a : ℕ). a + over S q j) (nodes-rows h j (omega arith)))
+    row-of : (j f : ℕ) → j ≤ h → f ≡ nodesBefore S h j + over S q j → f / k ≡ rowsBefore S h j + over S q (suc j)
+    row-of j f b e =
+        ap (λ (a : ℕ). a / k) (e ∙ ap (λ (a : ℕ). a + over S q j) (nodes-rows h j b))
         ∙ mul-add-div (some-arity S G) (rowsBefore S h j) (over S q j)
         ∙ ap (λ (a : ℕ). rowsBefore S h j + a) (sym (over-next S G q j))
 
@@ -225,11 +230,11 @@ module _ (S : Shape) (G : Regular S) where
     unfolding numberOf nodesBefore sum
     number-at zero b = omega (arith, over-leaf S G q)
     number-at (suc j) b =
-        omega (arith, refusal-of j (numberOf S (k ^ h) q j) b (number-at j (omega arith)), nodes-above h j)
+        omega (arith, row-of j (numberOf S (k ^ h) q j) (omega arith) (number-at j (omega arith)), nodes-above h j)
 
     -- the number of its row, and where it stands there
-    pub number-row : (j : ℕ) → j < h → numberOf S (k ^ h) q j / k ≡ rowsBefore S h j + over S q (suc j)
-    number-row j b = refusal-of j (numberOf S (k ^ h) q j) b (number-at j (omega arith))
+    pub number-row : (j : ℕ) → j ≤ h → numberOf S (k ^ h) q j / k ≡ rowsBefore S h j + over S q (suc j)
+    number-row j b = row-of j (numberOf S (k ^ h) q j) b (number-at j b)
 
     pub number-child : (j : ℕ) → j < h → numberOf S (k ^ h) q j % k ≡ child S q j
     number-child j b =
@@ -238,14 +243,14 @@ module _ (S : Shape) (G : Regular S) where
 
     -- so its row and the node above it are inside the store
     pub row-inner : (j : ℕ) → j < h → numberOf S (k ^ h) q j / k < inner S h
-    row-inner j b = rw (number-row j b) (number-inner h j (over S q (suc j)) b (over-below S G h q (suc j) inside b))
+    row-inner j b = rw (number-row j (omega arith)) (number-inner h j (over S q (suc j)) b (over-below S G h q (suc j) inside b))
 
     pub climb-ascend : (j : ℕ) (s : Counted) → j ≤ h → length (s .store) ≡ size S h → climb S h q j s ≡ ascend S (k ^ h) q j s
     unfolding climb ascend
     climb-ascend zero s b e = refl
     climb-ascend (suc j) s b e =
         rewrite-number h j (over S q (suc j)) (climb S h q j s) (length-climb S G h q inside j s (omega arith) e) b (over-below S G h q (suc j) inside b)
-        ∙ ap (λ (a : ℕ). writeNode S (k ^ h) a (climb S h q j s)) (sym (number-row j b))
+        ∙ ap (λ (a : ℕ). writeNode S (k ^ h) a (climb S h q j s)) (sym (number-row j (omega arith)))
         ∙ ap (writeNode S (k ^ h) (numberOf S (k ^ h) q j / k)) (climb-ascend j s (omega arith) e)
 
     pub replace-ascend : (leaf : List ℕ) (s : Counted) → length leaf ≡ l → length (s .store) ≡ size S h
@@ -261,7 +266,7 @@ module _ (S : Shape) (G : Regular S) where
         joined-same (openingAt S h q store) (λ i. without S (numberOf S (k ^ h) q i % k) (row S (numberOf S (k ^ h) q i / k) store)) h
         (λ j b.
         ap (without S (child S q j)) (row-number h j (over S q j / k) store e b (parent-inside S G h q j inside b))
-        ∙ ap (λ (a : ℕ). without S (child S q j) (row S a store)) (ap (λ (a : ℕ). rowsBefore S h j + a) (sym (over-next S G q j)) ∙ sym (number-row j b))
+        ∙ ap (λ (a : ℕ). without S (child S q j) (row S a store)) (ap (λ (a : ℕ). rowsBefore S h j + a) (sym (over-next S G q j)) ∙ sym (number-row j (omega arith)))
         ∙ ap (λ (a : ℕ). without S a (row S (numberOf S (k ^ h) q j / k) store)) (sym (number-child j b)))
 
 pub numbered : (S : Shape) → Regular S → Numbered S

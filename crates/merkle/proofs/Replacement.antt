@@ -1,10 +1,9 @@
--- Replacements and pushes: their counts and lengths on any store, and that on a built store they leave the one built from the changed leaves.
-use mathlib.Core.Path.{_≡_, sym, ap, _∙_}
+-- Replacements, one or many: their counts and lengths on any store, and that on a built store they leave the one built from the changed leaves.
+use mathlib.Core.Path.{_≡_, refl, sym, ap, _∙_}
 use mathlib.Core.Logic.{_≢_}
 use mathlib.Core.Bool.{true}
 use mathlib.Core.List.{List, [], _∷_, _++_, append-assoc, append-nil}
 use Prim.Native.Nat.{ℕ, zero, suc, _+_, _*_, _-_, _/_, _^_, _≤_, _<_}
-use native.Mathlib.Nat.{mul-suc, mul-zero}
 use native.Mathlib.Decide.{decLt}
 use native.Mathlib.Omega.{arith}
 use lib.ListN.{length, drop}
@@ -13,7 +12,7 @@ use Rattle.modular.specs.Arithmetic.{allWords}
 use Rattle.merkle.specs.Lists.{part, put, joined}
 use Rattle.merkle.specs.Levels.{Shape, Regular, KeepsWords, Nodes, row, above, count, level, build, start, size, storedLevel}
 use Rattle.merkle.specs.Openings.{over}
-use Rattle.merkle.specs.Replacement.{Counted, Change, rewriteNode, climb, replaceFrom, pushFrom, changed}
+use Rattle.merkle.specs.Replacement.{Counted, Change, rewriteNode, climb, replaceFrom, replace, singly, changed}
 use Rattle.merkle.specs.Statements.{Proper, LeafWords}
 use Rattle.merkle.proofs.Lists.{part-middle, part-put-before, part-put-behind, length-put, put-append, put-inside, joined-put, joined-at, words-part, words-put}
 use Rattle.merkle.proofs.Levels.{fits, count-down, count-leaves, place-in-row, child-fits, length-row, length-stored-row, level-inside, start-zero, start-next, level-nodes, level-rows, length-levels, build-size}
@@ -32,12 +31,6 @@ module _ (S : Shape) (G : Regular S) where
   pub replace-made : (h q : ℕ) (leaf : List ℕ) (s : Counted) → replaceFrom S h q leaf s .made ≡ s .made + h
   unfolding replaceFrom
   replace-made h q leaf s = climb-made h q h (record { store = put (s .store) (q * l) leaf; made = s .made })
-
-  pub push-made : (h : ℕ) (cs : List Change) (s : Counted) → pushFrom S h cs s .made ≡ s .made + h * length cs
-  unfolding pushFrom
-  push-made h [] s = omega (arith, mul-zero h)
-  push-made h (c ∷ cs) s =
-      omega (arith, push-made h cs (replaceFrom S h (c .place) (c .leaf) s), replace-made h (c .place) (c .leaf) s, mul-suc h (length cs))
 
   -- ---- lengths, on any store
 
@@ -226,7 +219,7 @@ module _ (S : Shape) (G : Regular S) where
         ∙ climbed h c (omega arith)
         ∙ (λ i. record { store = partly-end i; made = c + h })
 
-  -- ---- pushes
+  -- ---- changes done singly
 
   pub changed-nodes : (h : ℕ) (cs : List Change) (leaves : List ℕ) → Proper S h cs → Nodes S (k ^ h) leaves → Nodes S (k ^ h) (changed S cs leaves)
   unfolding changed
@@ -234,30 +227,30 @@ module _ (S : Shape) (G : Regular S) where
   changed-nodes h (c ∷ cs) leaves P N =
       changed-nodes h cs (put leaves (c .place * l) (c .leaf)) (P .2) (put-nodes (k ^ h) (c .place) leaves (c .leaf) (P .0) (P .1) N)
 
-  pub push-build : (h : ℕ) (cs : List Change) (leaves : List ℕ) (m : ℕ) → Proper S h cs → Nodes S (k ^ h) leaves
-      → pushFrom S h cs (record { store = build S h leaves; made = m }) ≡ record { store = build S h (changed S cs leaves); made = m + h * length cs }
-  unfolding pushFrom changed
-  push-build h [] leaves m P N = let z : m ≡ m + h * 0 = omega (arith, mul-zero h) in λ i. record { store = build S h leaves; made = z i }
-  push-build h (c ∷ cs) leaves m P N =
-      let z : m + h + h * length cs ≡ m + h * suc (length cs) = omega (arith, mul-suc h (length cs)) in
-      let L : List ℕ = put leaves (c .place * l) (c .leaf) in
-      ap (pushFrom S h cs) (replace-build h (c .place) leaves (c .leaf) N (P .0) (P .1) m)
-      ∙ push-build h cs L (m + h) (P .2) (put-nodes (k ^ h) (c .place) leaves (c .leaf) (P .0) (P .1) N)
-      ∙ (λ i. record { store = build S h (changed S cs L); made = z i })
+  -- on a built store
+  pub singly-build : (h : ℕ) (cs : List Change) (leaves : List ℕ) → Proper S h cs → Nodes S (k ^ h) leaves
+      → singly S h cs (build S h leaves) ≡ build S h (changed S cs leaves)
+  unfolding singly changed replace
+  singly-build h [] leaves P N = refl
+  singly-build h (c ∷ cs) leaves P N =
+      ap (λ (s : Counted). singly S h cs (s .store)) (replace-build h (c .place) leaves (c .leaf) N (P .0) (P .1) 0)
+      ∙ singly-build h cs (put leaves (c .place * l) (c .leaf)) (P .2) (put-nodes (k ^ h) (c .place) leaves (c .leaf) (P .0) (P .1) N)
 
-  pub length-push : (h : ℕ) (cs : List Change) (s : Counted) → Proper S h cs → length (s .store) ≡ size S h → length (pushFrom S h cs s .store) ≡ size S h
-  unfolding pushFrom
-  length-push h [] s P e = e
-  length-push h (c ∷ cs) s P e =
-      length-push h cs (replaceFrom S h (c .place) (c .leaf) s) (P .2) (length-replace h (c .place) (P .0) (c .leaf) s (P .1) e)
+  pub length-singly : (h : ℕ) (cs : List Change) (store : List ℕ) → Proper S h cs → length store ≡ size S h → length (singly S h cs store) ≡ size S h
+  unfolding singly replace
+  length-singly h [] store P e = e
+  length-singly h (c ∷ cs) store P e =
+      length-singly h cs (replace S h (c .place) (c .leaf) store .store) (P .2)
+      (length-replace h (c .place) (P .0) (c .leaf) (record { store = store; made = 0 }) (P .1) e)
 
   module _ (p : ℕ) (W : KeepsWords p S) where
-    pub push-words : (h : ℕ) (cs : List Change) (s : Counted) → Proper S h cs → LeafWords p cs → length (s .store) ≡ size S h → allWords p (s .store) ≡ true
-        → allWords p (pushFrom S h cs s .store) ≡ true
-    unfolding pushFrom
-    push-words h [] s P L e w = w
-    push-words h (c ∷ cs) s P L e w =
-        push-words h cs (replaceFrom S h (c .place) (c .leaf) s) (P .2) (L .1) (length-replace h (c .place) (P .0) (c .leaf) s (P .1) e)
+    pub singly-words : (h : ℕ) (cs : List Change) (store : List ℕ) → Proper S h cs → LeafWords p cs → length store ≡ size S h → allWords p store ≡ true
+        → allWords p (singly S h cs store) ≡ true
+    unfolding singly replace
+    singly-words h [] store P L e w = w
+    singly-words h (c ∷ cs) store P L e w =
+        let s : Counted = record { store = store; made = 0 } in
+        singly-words h cs (replace S h (c .place) (c .leaf) store .store) (P .2) (L .1) (length-replace h (c .place) (P .0) (c .leaf) s (P .1) e)
         (replace-words h (c .place) (P .0) p W (c .leaf) s (P .1) e (L .0) w)
 
   pub changed-words : (p : ℕ) (cs : List Change) (leaves : List ℕ) → LeafWords p cs → allWords p leaves ≡ true → allWords p (changed S cs leaves) ≡ true

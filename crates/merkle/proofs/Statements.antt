@@ -1,5 +1,5 @@
 -- Every regular shape has the laws of the tree.
-use mathlib.Core.Path.{_≡_, refl, sym, ap, _∙_}
+use mathlib.Core.Path.{_≡_, sym, ap, _∙_}
 use mathlib.Core.List.{List}
 use Prim.Native.Nat.{ℕ, suc, _+_, _*_, _^_, _<_}
 use native.Mathlib.Nat.{pow-zero, one-mul, zero-add}
@@ -7,13 +7,15 @@ use native.Mathlib.Omega.{arith}
 use lib.ListN.{length}
 use Rattle.merkle.specs.Levels.{Shape, Regular, KeepsWords, Nodes, node, row, level, build, size}
 use Rattle.merkle.specs.Openings.{openingAt, pathNode, accepts}
-use Rattle.merkle.specs.Replacement.{Counted, Change, replace, push, pushFrom}
+use Rattle.merkle.specs.Replacement.{Counted, Change, placesOf, replace, singly, push}
 use Rattle.merkle.specs.Statements.{IsStore, Building, LeafRoot, Storeless, Opened, Accepting, Replaced, Proper, Pushed, Counts, EmptyPush, TreeLaws, WordLaws, EveryTree}
 use Rattle.merkle.proofs.Lists.{same-true, eq-same}
 use Rattle.merkle.proofs.Levels.{build-size, build-words, built-level, build-only, level-node, root-build}
 use Rattle.merkle.proofs.Storeless.{node-from-row, row-from-none, row-from-nodes, storeless-root}
 use Rattle.merkle.proofs.Openings.{length-opening, opening-part, opening-words, path-node-words, own-end, own-accepted}
-use Rattle.merkle.proofs.Replacement.{replace-made, push-made, replace-build, push-build, push-words}
+use Rattle.merkle.proofs.Replacement.{replace-made, replace-build, singly-build, singly-words}
+use Rattle.merkle.proofs.Above.{above-most, above-none, above-single, above-each}
+use Rattle.merkle.proofs.Levelwise.{level-by-level}
 use Rattle.merkle.proofs.Extraction.{extracted, binding}
 
 module _ (S : Shape) (G : Regular S) where
@@ -65,22 +67,21 @@ module _ (S : Shape) (G : Regular S) where
 
   pushed : (h : ℕ) (cs : List Change) (leaves : List ℕ) → Nodes S (k ^ h) leaves → Proper S h cs → Pushed S h cs leaves
   unfolding push
-  pushed h cs leaves N P =
-      let z : 0 + h * length cs ≡ h * length cs = omega arith in
-      let r = push-build S G h cs leaves 0 P N in
-      record { stored = ap (λ (s : Counted). s .store) r; counted = ap (λ (s : Counted). s .made) r ∙ z }
+  pushed h cs leaves N P = singly-build S G h cs leaves P N
 
   counts : Counts S
-  unfolding replace push
+  unfolding replace
   counts =
       record {
         one = λ h q leaf store. replace-made S G h q leaf (record { store = store; made = 0 }) ∙ zero-add h;
-        each = λ h cs store. push-made S G h cs (record { store = store; made = 0 }) ∙ zero-add (h * length cs);
+        most = above-most S G;
+        single = above-single S G;
+        each = above-each S G;
       }
 
   empty-push : EmptyPush S
-  unfolding push pushFrom
-  empty-push h store = refl
+  unfolding push singly placesOf
+  empty-push h store = λ i. record { store = store; made = above-none S G h i }
 
   accepting : Accepting S
   unfolding accepts
@@ -97,6 +98,7 @@ module _ (S : Shape) (G : Regular S) where
         accepting = accepting;
         replaced = replaced;
         pushed = pushed;
+        levelByLevel = level-by-level S G;
         counts = counts;
         emptyPush = empty-push;
         extracted = extracted S;
@@ -110,7 +112,7 @@ module _ (S : Shape) (G : Regular S) where
         built = build-words S G p W;
         opened = opening-words S G p;
         onPath = λ h q leaf siblings e f v w. path-node-words S G h q leaf siblings e f p W v w;
-        pushed = λ h cs store P L e w. push-words S G p W h cs (record { store = store; made = 0 }) P L e w;
+        pushed = λ h cs store P L e w. singly-words S G p W h cs store P L e w;
       }
 
 pub every-tree : EveryTree

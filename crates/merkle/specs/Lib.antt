@@ -3,7 +3,9 @@ pub mod Lists
 pub mod Levels
 pub mod Storeless
 pub mod Openings
+pub mod Above
 pub mod Replacement
 pub mod Extraction
 pub mod Numbering
 pub mod Statements
+pub mod Marks

@@ -4,6 +4,7 @@ use Prim.Native.Nat.{ℕ, zero, suc, _+_, _*_}
 use Rattle.merkle.specs.Lists.{put}
 use Rattle.merkle.specs.Levels.{Shape, row, start, storedLevel}
 use Rattle.merkle.specs.Openings.{over}
+use Rattle.merkle.specs.Above.{aboveAt, nodesAbove}
 
 -- a store and the compressions made so far
 pub record Counted : Type 0 where
@@ -14,6 +15,11 @@ pub record Counted : Type 0 where
 pub record Change : Type 0 where
   pub place : ℕ
   pub leaf : List ℕ
+
+-- the places, in order
+unfoldable pub placesOf : List Change → List ℕ
+placesOf [] = []
+placesOf (c ∷ cs) = c .place ∷ placesOf cs
 
 module _ (S : Shape) where
   open Shape S using (arity as k, nodeSize as l, compress)
@@ -39,15 +45,28 @@ module _ (S : Shape) where
   unfoldable pub replace : ℕ → ℕ → List ℕ → List ℕ → Counted
   replace h q leaf store = replaceFrom h q leaf (record { store = store; made = 0 })
 
-  -- A push: one replacement after another, under one count (Rules 5.4).
-  unfoldable pub pushFrom : ℕ → List Change → Counted → Counted
-  pushFrom h [] s = s
-  pushFrom h (c ∷ cs) s = pushFrom h cs (replaceFrom h (c .place) (c .leaf) s)
+  -- The changes done singly, in order, each by a replacement of its own: the store that they leave.
+  unfoldable pub singly : ℕ → List Change → List ℕ → List ℕ
+  singly h [] store = store
+  singly h (c ∷ cs) store = singly h cs (replace h (c .place) (c .leaf) store .store)
 
+  -- A push leaves that store, and its count is the number of different nodes above the places (Rules 5.4).
   unfoldable pub push : ℕ → List Change → List ℕ → Counted
-  push h cs store = pushFrom h cs (record { store = store; made = 0 })
+  push h cs store = record { store = singly h cs store; made = nodesAbove k h (placesOf cs) }
 
   -- the leaves, each change's leaf put to its place, in order
   unfoldable pub changed : List Change → List ℕ → List ℕ
   changed [] leaves = leaves
   changed (c ∷ cs) leaves = changed cs (put leaves (c .place * l) (c .leaf))
+
+  -- ---- level by level, each node above the places once
+
+  -- nodes of level j + 1 rewritten one after another, by the one function
+  unfoldable pub rewriteAll : ℕ → ℕ → List ℕ → Counted → Counted
+  rewriteAll h j [] s = s
+  rewriteAll h j (i ∷ is) s = rewriteAll h j is (rewriteNode h j i s)
+
+  -- the different nodes above the places, of levels 1 to j, from below
+  unfoldable pub levelwise : ℕ → List ℕ → ℕ → Counted → Counted
+  levelwise h qs zero s = s
+  levelwise h qs (suc j) s = rewriteAll h j (aboveAt k qs (suc j)) (levelwise h qs j s)

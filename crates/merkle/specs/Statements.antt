@@ -1,17 +1,19 @@
 -- What is claimed of every tree, over any compression. The proofs give all of it for every regular shape.
 use mathlib.Core.Path.{_≡_}
 use mathlib.Core.Logic.{_≢_, _↔_}
-use mathlib.Core.Bool.{true}
-use mathlib.Core.List.{List, [], _∷_, _++_}
+use mathlib.Core.Bool.{true, cond}
+use mathlib.Core.List.{List, [], _∷_, _++_, map}
 use mathlib.Core.Option.{Option, none, some}
 use Prim.Native.Nat.{ℕ, suc, _+_, _*_, _-_, _/_, _%_, _^_, _≤_, _<_}
 use lib.ListN.{length}
 use Rattle.modular.specs.Arithmetic.{allWords}
-use Rattle.merkle.specs.Lists.{put}
+use Rattle.repeats.specs.Repeats.{member}
+use Rattle.merkle.specs.Lists.{put, sum}
 use Rattle.merkle.specs.Levels.{Shape, Regular, KeepsWords, Nodes, node, row, count, build, size, storedLevel, root}
 use Rattle.merkle.specs.Storeless.{nodeOf, rowOf, storelessRoot}
-use Rattle.merkle.specs.Openings.{without, opening, siblingsAt, pathNode, pathRow, accepts}
-use Rattle.merkle.specs.Replacement.{Change, replace, push, changed}
+use Rattle.merkle.specs.Openings.{over, without, opening, siblingsAt, pathNode, pathRow, accepts}
+use Rattle.merkle.specs.Above.{aboveAt, nodesAbove}
+use Rattle.merkle.specs.Replacement.{Change, placesOf, replace, push, changed, levelwise}
 use Rattle.merkle.specs.Extraction.{Collision, extract}
 
 -- ---- building
@@ -74,15 +76,31 @@ abbrev pub Proper : Shape → ℕ → List Change → Type 0
 Proper S h [] = Unit {0}
 Proper S h (c ∷ cs) = (c .place < S .arity ^ h) × (length (c .leaf) ≡ S .nodeSize) × Proper S h cs
 
--- So does a push, record by record, and its count is h for each.
-pub record Pushed (S : Shape) (h : ℕ) (cs : List Change) (leaves : List ℕ) : Type 0 where
-  pub stored : push S h cs (build S h leaves) .store ≡ build S h (changed S cs leaves)
-  pub counted : push S h cs (build S h leaves) .made ≡ h * length cs
+-- or l words at most
+abbrev pub Fitting : Shape → ℕ → List Change → Type 0
+Fitting S h [] = Unit {0}
+Fitting S h (c ∷ cs) = (c .place < S .arity ^ h) × (length (c .leaf) ≤ S .nodeSize) × Fitting S h cs
 
--- The counts owe nothing to the store: h for a replacement, and for a push h for each record.
+-- So does a push.
+abbrev pub Pushed : (S : Shape) (h : ℕ) (cs : List Change) (leaves : List ℕ) → Type 0
+Pushed S h cs leaves = push S h cs (build S h leaves) .store ≡ build S h (changed S cs leaves)
+
+-- A push is made by the one function alone: it begins with the leaves written and the count 0, goes level by level, rewrites each node above the
+-- places once and hands the count on. From every store of the right size, built or not, that leaves the push's store, which is the one that
+-- the changes done singly leave, and the last count is the push's.
+abbrev pub LevelByLevel : Shape → Type 0
+LevelByLevel S =
+    (h : ℕ) (cs : List Change) (store : List ℕ) → Fitting S h cs → length store ≡ size S h
+    → levelwise S h (placesOf cs) h (record { store = changed S cs store; made = 0 }) ≡ push S h cs store
+
+-- The counts owe nothing to the store: h for a replacement, and for a push at most h for each record.
 pub record Counts (S : Shape) : Type 0 where
   pub one : (h q : ℕ) (leaf store : List ℕ) → replace S h q leaf store .made ≡ h
-  pub each : (h : ℕ) (cs : List Change) (store : List ℕ) → push S h cs store .made ≡ h * length cs
+  pub most : (h : ℕ) (qs : List ℕ) → nodesAbove (S .arity) h qs ≤ h * length qs
+  pub single : (h q : ℕ) → nodesAbove (S .arity) h (q ∷ []) ≡ h
+  -- of the k^(h - j) nodes of level j those count over which a listed place stands
+  pub each : (h j : ℕ) (qs : List ℕ) → j ≤ h → ((q : ℕ) → member q qs ≡ true → q < S .arity ^ h)
+      → length (aboveAt (S .arity) qs j) ≡ sum (λ i. cond (member i (map (λ q. over S q j) qs)) 1 0) (count S h j)
 
 -- A push of no record leaves the store, and its count is 0 (Rules 5.4).
 abbrev pub EmptyPush : Shape → Type 0
@@ -129,6 +147,7 @@ pub record TreeLaws (S : Shape) : Type 0 where
   pub replaced : (h q : ℕ) (leaves leaf : List ℕ) → Nodes S (S .arity ^ h) leaves → q < S .arity ^ h → length leaf ≡ S .nodeSize
       → Replaced S h q leaves leaf
   pub pushed : (h : ℕ) (cs : List Change) (leaves : List ℕ) → Nodes S (S .arity ^ h) leaves → Proper S h cs → Pushed S h cs leaves
+  pub levelByLevel : LevelByLevel S
   pub counts : Counts S
   pub emptyPush : EmptyPush S
   pub extracted : (h q : ℕ) (a x b y : List ℕ) → Extracted S h q a x b y (extract S h q a x b y)

@@ -9,7 +9,9 @@ use Rattle.fields.proofs.Prime.{prime-laws}
 use Rattle.poseidon2.specs.Layers.{addLists, sum, dot, rowsTimes, m4Rows, m4, blocks, joinBlocks, sumBlocks, addToEach, mixed, external, sums, m4Blocks, plusMultiples, internal}
 use Rattle.poseidon2.specs.Rounds.{addConstants, seventhPowers, fullRound, raiseFirst, partialRound, fullRounds, partialRounds, permuteAt, permute}
 use Rattle.poseidon2.specs.Compression.{compress}
-use Rattle.merkle.specs.Lists.{put, joined}
+use Rattle.repeats.specs.Repeats.{member}
+use Rattle.merkle.specs.Above.{once, aboveAt, nodesAbove}
+use Rattle.merkle.specs.Lists.{put, joined, sum as sumUpTo}
 use Rattle.merkle.specs.Levels.{above, level, build, root}
 use Rattle.bytes.specs.Numbers.{littleEndian, numbersOf, digits, decimal}
 use Rattle.blobs.specs.Blob.{blobHead, message, shortfall, paddedTo, packed, fileWords}
@@ -21,6 +23,6 @@ unfolding mul
 inverse-of-two = sym (prime-laws .inverses .only 2 9223372034707292161 (lit< tt) (lit< tt) (lit< tt) refl)
 
 pub worked : Worked
-unfolding add sub mul pow addLists sum dot rowsTimes m4Rows m4 blocks joinBlocks sumBlocks addToEach mixed external sums m4Blocks plusMultiples internal addConstants seventhPowers fullRound raiseFirst partialRound fullRounds partialRounds permuteAt permute compress put joined level above build root littleEndian numbersOf digits decimal blobHead message shortfall paddedTo packed fileWords
+unfolding add sub mul pow addLists sum dot rowsTimes m4Rows m4 blocks joinBlocks sumBlocks addToEach mixed external sums m4Blocks plusMultiples internal addConstants seventhPowers fullRound raiseFirst partialRound fullRounds partialRounds permuteAt permute compress put joined level above build root member once aboveAt sumUpTo nodesAbove littleEndian numbersOf digits decimal blobHead message shortfall paddedTo packed fileWords
 worked =
-    (refl, (refl, (refl, (refl, (ap (λ (x : ℕ). x ∷ []) inverse-of-two, (refl, (refl, (refl, (refl, (refl, (refl, (refl, (refl, (refl, (refl, (refl, (refl, (refl, (refl, (refl, tt))))))))))))))))))))
+    (refl, (refl, (refl, (refl, (ap (λ (x : ℕ). x ∷ []) inverse-of-two, (refl, (refl, (refl, (refl, (refl, (refl, (refl, (refl, (refl, (refl, (refl, (refl, (refl, (refl, (refl, (refl, (refl, (refl, (refl, (refl, (refl, (refl, tt)))))))))))))))))))))))))))

@@ -7,6 +7,7 @@ use Rattle.fields.specs.Prime.{prime, wordBytes}
 use Rattle.poseidon2.specs.Layers.{m4, external, sums, m4Blocks, internal}
 use Rattle.poseidon2.specs.Rounds.{permute}
 use Rattle.poseidon2.specs.Compression.{compress}
+use Rattle.merkle.specs.Above.{nodesAbove}
 use Rattle.merkle.specs.Levels.{Shape, build, root}
 use Rattle.trees.specs.Shapes.{shape}
 use Rattle.blobs.specs.Blob.{message, fileWords}
@@ -63,6 +64,17 @@ tTree = shape prime 4 2 1 0 tDiagonal tConstants
 abbrev pub treeCases : List Case
 treeCases = case (root tTree (build tTree 1 one)) (6 ∷ 4 ∷ []) ∷ []
 
+-- How many different nodes stand above listed places: under T, and with k = 2, h = 3; k = 4, h = 2; and h = 0.
+abbrev pub countCases : List Case
+countCases =
+    case (nodesAbove 2 1 (1 ∷ 0 ∷ []) ∷ []) (1 ∷ []) ∷
+    case (nodesAbove 2 3 (5 ∷ []) ∷ []) (3 ∷ []) ∷
+    case (nodesAbove 2 3 (0 ∷ 1 ∷ []) ∷ []) (3 ∷ []) ∷
+    case (nodesAbove 2 3 (7 ∷ 0 ∷ []) ∷ []) (5 ∷ []) ∷
+    case (nodesAbove 2 3 (0 ∷ 1 ∷ 2 ∷ 3 ∷ 4 ∷ 5 ∷ 6 ∷ 7 ∷ []) ∷ []) (7 ∷ []) ∷
+    case (nodesAbove 4 2 (0 ∷ 15 ∷ 3 ∷ []) ∷ []) (3 ∷ []) ∷
+    case (nodesAbove 2 0 (0 ∷ []) ∷ []) (0 ∷ []) ∷ []
+
 -- `hello` and a newline
 abbrev pub hello : List ℕ
 hello = 104 ∷ 101 ∷ 108 ∷ 108 ∷ 111 ∷ 10 ∷ []
@@ -75,7 +87,7 @@ fileCases =
     case (fileWords wordBytes 2 hello) (59512718322786 ∷ 292948653401448 ∷ []) ∷ []
 
 abbrev pub starred : List Case
-starred = fieldCases ++ (permutationCases ++ (treeCases ++ fileCases))
+starred = fieldCases ++ (permutationCases ++ (treeCases ++ (countCases ++ fileCases)))
 
 abbrev pub AllHold : List Case → Type 0
 AllHold [] = Unit {0}

@@ -22,9 +22,9 @@ use Rattle.pushes.specs.declared.record.Record.{Record}
 use Rattle.pushes.specs.declared.tally.Tally.{Tally}
 use Rattle.pushes.specs.Records.{placesOf, placesBelow, usedWords}
 use Rattle.push_entries.specs.Pushes.{fewRecords, pushing, pushRefusals, pushReply, pushed}
-use Rattle.pushes.specs.Passes.{Pass, pass, keepable, Going, eachOf, searchOf}
+use Rattle.pushes.specs.Passes.{Pass, pass, keepable, Going, Rising, Sweeping, eachOf, searchOf, levelsOf, sweepOf}
 use Rattle.push_entries.specs.Ends.{beginOf, finishOf}
-use Rattle.push_entries.proofs.Passes.{begins, afterTests, afterSearch, pushes, at-once, first-asks, second-asks, third-asks}
+use Rattle.push_entries.proofs.Passes.{begins, afterTests, afterSearch, afterMarks, afterLevels, pushes, at-once, first-asks, second-asks, third-asks, fourth-asks, fifth-asks}
 use Rattle.pushes.specs.Listed.{listed, wholeRecords}
 use Rattle.push_entries.specs.Listed.{listedRefusals, listedReply, listedPushed}
 use Rattle.pushes.proofs.Listed.{listed-count}
@@ -100,17 +100,33 @@ module _ (s : ParameterSet) (xs ns : List ℕ) where
       test-asks = counts-as 0 (replicate keepable 0) b (begins s xs rs) begun-is (first-asks s xs rs record-bytes)
 
       module _ (t : Tally) (e : t ≡ eachOf s 0 rs (pass b (replicate keepable 0)) .tally) where
-        pub search-asks : Going s 2 (replicate mapWords 0) t (length ns / 7)
-        search-asks = counts-as 2 (replicate mapWords 0) t (afterTests s xs rs) (tests-are t e) (second-asks s xs rs record-bytes)
+        pub search-asks : Going s 3 (replicate mapWords 0) t (length ns / 7)
+        search-asks = counts-as 3 (replicate mapWords 0) t (afterTests s xs rs) (tests-are t e) (second-asks s xs rs record-bytes)
 
-        pub write-asks : (u : Tally) → u ≡ searchOf s rs t → Going s 1 xs u (length ns / 7)
-        write-asks u f = counts-as 1 xs u (afterSearch s xs rs) (f ∙ ap (searchOf s rs) (tests-are t e)) (third-asks s xs rs record-bytes)
+        module _ (u : Tally) (f : u ≡ searchOf s rs t) where
+          searched : u ≡ afterSearch s xs rs
+          searched = f ∙ ap (searchOf s rs) (tests-are t e)
 
-    pub whole-is-pushed : length ns % 7 ≡ 0 → (t t′ t″ : Tally) (zs : List ℕ)
-        → t ≡ eachOf s 0 rs (pass b (replicate keepable 0)) .tally → t′ ≡ searchOf s rs t
-        → (t″ ≡ eachOf s 1 rs (pass t′ xs) .tally) × (zs ≡ eachOf s 1 rs (pass t′ xs) .buffer)
-        → (r : Changed) → r ≡ finishOf t″ → (changedReply r ≡ listedReply s xs ns) × (zs ≡ listedPushed s xs ns)
-    whole-is-pushed w t t′ t″ zs e f g r h =
-        let searched : t′ ≡ afterSearch s xs rs = f ∙ ap (searchOf s rs) (tests-are t e) in
-        let written : pass t″ zs ≡ eachOf s 1 rs (pass (afterSearch s xs rs) xs) = (λ i. pass (g .0 i) (g .1 i)) ∙ ap (λ (u : Tally). eachOf s 1 rs (pass u xs)) searched in
-        (ap changedReply (h ∙ ap (λ (u : Pass). finishOf (u .tally)) written) ∙ pushes s xs rs .0 ∙ whole-reply w, ap (λ (u : Pass). u .buffer) written ∙ pushes s xs rs .1 ∙ whole-pushed w)
+          pub mark-asks : Going s 1 xs u (length ns / 7)
+          mark-asks = counts-as 1 xs u (afterSearch s xs rs) searched (third-asks s xs rs record-bytes)
+
+          module _ (v : Tally) (ys : List ℕ) (g : (v ≡ eachOf s 1 rs (pass u xs) .tally) × (ys ≡ eachOf s 1 rs (pass u xs) .buffer)) (same : length ys ≡ length xs) where
+            marked : pass v ys ≡ afterMarks s xs rs
+            marked = (λ i. pass (g .0 i) (g .1 i)) ∙ ap (λ (w : Tally). eachOf s 1 rs (pass w xs)) searched
+
+            marked-tally : v ≡ afterMarks s xs rs .tally
+            marked-tally = ap (λ (w : Pass). w .tally) marked
+
+            pub rise-asks : Rising s ys v (length ns / 7)
+            rise-asks = subst (Rising s ys v) (listed-count ns) (fourth-asks s xs rs record-bytes v ys marked-tally same)
+
+            module _ (w : Tally) (zs : List ℕ) (h : (w ≡ levelsOf s rs (pass v ys) .tally) × (zs ≡ levelsOf s rs (pass v ys) .buffer)) (long : length zs ≡ length ys) where
+              pub sweep-asks : Sweeping s zs w
+              sweep-asks = fifth-asks s xs rs record-bytes v ys marked-tally same w zs (h .0) long
+
+              pub whole-is-pushed : length ns % 7 ≡ 0 → (x : Tally) (ws : List ℕ) → (x ≡ sweepOf s (pass w zs) .tally) × (ws ≡ sweepOf s (pass w zs) .buffer)
+                  → (r : Changed) → r ≡ finishOf x → (changedReply r ≡ listedReply s xs ns) × (ws ≡ listedPushed s xs ns)
+              whole-is-pushed whole x ws k r l =
+                  let risen : pass w zs ≡ afterLevels s xs rs = (λ i. pass (h .0 i) (h .1 i)) ∙ ap (levelsOf s rs) marked in
+                  let swept : pass x ws ≡ sweepOf s (afterLevels s xs rs) = (λ i. pass (k .0 i) (k .1 i)) ∙ ap (sweepOf s) risen in
+                  (ap changedReply (l ∙ ap (λ (z : Pass). finishOf (z .tally)) swept) ∙ pushes s xs rs .0 ∙ whole-reply whole, ap (λ (z : Pass). z .buffer) swept ∙ pushes s xs rs .1 ∙ whole-pushed whole)

@@ -1,9 +1,10 @@
 -- The passes together give what `Pushes` says, whatever the set, the store and the records.
 use mathlib.Core.Path.{_≡_, refl, sym, ap, subst, _∙_}
 use mathlib.Core.Logic.{_≢_, _⊎_, inl, inr}
-use mathlib.Core.Bool.{Bool, true, false, not, _&&_, false≢true, and-false, and-comm}
+use mathlib.Core.Bool.{Bool, true, false, cond, not, _&&_, false≢true, and-false, and-comm}
 use mathlib.Core.List.{List, [], _∷_, _++_, append-assoc}
 use Prim.Native.Nat.{ℕ, zero, suc, _+_, _*_, _^_, _≤_, _<_}
+use native.Mathlib.Nat.{mul-le-mul-right}
 use native.Mathlib.Omega.{arith}
 use lib.Dec.{lit<, eqb, ltb, leb}
 use lib.ListN.{length, replicate, length-replicate}
@@ -16,23 +17,28 @@ use Rattle.refusals.proofs.LengthsPlacesAndWords.{twelve-first, twelve-passed}
 use Rattle.parameters.specs.declared.ParameterSet.{ParameterSet}
 use Rattle.parameters.specs.ParameterSet.{primeOf, setRefusals}
 use Rattle.parameters.proofs.Accepted.{set-numbered}
-use Rattle.merkle.specs.Replacement.{Counted, replaceFrom, pushFrom, push}
+use Rattle.merkle.specs.Marks.{markChange}
+use Rattle.merkle.specs.Numbering.{rowsBefore}
+use Rattle.merkle.specs.Replacement.{Change}
 use Rattle.repeats.specs.Repeats.{repeats}
 use Rattle.repeats.specs.Maps.{mapWords}
 use Rattle.repeats.proofs.Members.{member-none}
-use Rattle.trees.specs.Shapes.{counted}
-use Rattle.trees.specs.SetTrees.{treeOf, leafCount, storeWords}
+use Rattle.trees.specs.SetTrees.{treeOf, dimensionsOf, leafCount, storeWords}
+use Rattle.trees.proofs.SetTrees as tree-of
+use Rattle.marks.specs.Marks.{mark}
 use Rattle.tree_entries.specs.Trees.{has}
 use Rattle.change_entries.specs.Replacement.{changedReply}
 use Rattle.pushes.specs.declared.record.Record.{Record}
 use Rattle.pushes.specs.declared.tally.Tally.{Tally}
 use Rattle.pushes.specs.Records.{leafOf, changesOf, placesOf, placesBelow, usedWords}
 use Rattle.push_entries.specs.Pushes.{pushRefusals, pushing, pushReply, pushed}
-use Rattle.pushes.specs.Passes.{Pass, pass, keepable, testOf, isClear, mayWrite, counting, wrote, writeOf, finding, stepOf, eachOf, wanted, searchOf, roomOf, Going}
+use Rattle.pushes.specs.Passes.{Pass, pass, keepable, testOf, isClear, mayWrite, mayRise, counting, markOf, finding, stepOf, eachOf, wanted, searchOf, levelsBy, byRecords, levelsUpTo, levelsOf, sweepOf, roomOf, Going, Rising, Sweeping}
 use Rattle.pushes.proofs.Tests.{Tested, tested-all, Seen, seen-all}
 use Rattle.pushes.proofs.Searching.{search-none, search-finds, search-only}
+use Rattle.pushes.proofs.Ranks.{ranked, levels-few, by-few, levels-at, before-inside}
 use Rattle.push_entries.specs.Ends.{earlyRefusals, begun, beginOf, finishOf}
 use Rattle.push_entries.proofs.Early.{early-numbered}
+use Rattle.push_entries.proofs.Writing.{Clear, Ready, writes}
 
 -- ---- tallies that allow no write
 
@@ -67,15 +73,37 @@ module _ (t : Tally) where
   no-write q (inl e) = ap (λ (b : Bool). b && (t .distinct && ltb q (t .places))) e
   no-write q (inr e) = and-fails (isClear t) (t .distinct && ltb q (t .places)) (ap (λ (b : Bool). b && ltb q (t .places)) e)
 
-module _ (s : ParameterSet) where
-  write-stays : (r : Record) (u : Pass) → mayWrite (u .tally) (r .place) ≡ false → stepOf s 1 r u ≡ u
-  unfolding stepOf writeOf
-  write-stays r u e = rw e
+  no-rise : Stopped → mayRise t ≡ false
+  unfolding mayRise
+  no-rise (inl e) = ap (λ (b : Bool). b && t .distinct) e
+  no-rise (inr e) = and-fails (isClear t) (t .distinct) e
 
-  write-none : (rs : List Record) (t : Tally) (store : List ℕ) → Stopped t → eachOf s 1 rs (pass t store) ≡ pass t store
+module _ (s : ParameterSet) where
+  -- all that is written, from the leaves to the root
+  abbrev pub write : List Record → Pass → Pass
+  write rs u = sweepOf s (levelsOf s rs (eachOf s 1 rs u))
+
+  mark-stays : (r : Record) (u : Pass) → mayWrite (u .tally) (r .place) ≡ false → stepOf s 1 r u ≡ u
+  unfolding stepOf markOf
+  mark-stays r u e = rw e
+
+  mark-none : (rs : List Record) (t : Tally) (store : List ℕ) → Stopped t → eachOf s 1 rs (pass t store) ≡ pass t store
   unfolding eachOf
-  write-none [] t store S = refl
-  write-none (r ∷ rs) t store S = ap (eachOf s 1 rs) (write-stays r (pass t store) (no-write t (r .place) S)) ∙ write-none rs t store S
+  mark-none [] t store S = refl
+  mark-none (r ∷ rs) t store S = ap (eachOf s 1 rs) (mark-stays r (pass t store) (no-write t (r .place) S)) ∙ mark-none rs t store S
+
+  levels-none : (rs : List Record) (u : Pass) → mayRise (u .tally) ≡ false → levelsOf s rs u ≡ u
+  unfolding levelsOf byRecords levelsUpTo
+  levels-none rs u e = rw e refl
+
+  sweep-none : (u : Pass) → mayRise (u .tally) ≡ false → sweepOf s u ≡ u
+  unfolding sweepOf
+  sweep-none u e = rw e refl
+
+  write-none : (rs : List Record) (t : Tally) (store : List ℕ) → Stopped t → write rs (pass t store) ≡ pass t store
+  write-none rs t store S =
+      ap (λ (u : Pass). sweepOf s (levelsOf s rs u)) (mark-none rs t store S)
+      ∙ ap (sweepOf s) (levels-none rs (pass t store) (no-rise t S)) ∙ sweep-none (pass t store) (no-rise t S)
 
   -- a tally with an early refusal stays in the tests too
   test-stays : (r : Record) (t : Tally) (seen : List ℕ) → eqb (t .number) 0 ≡ false → stepOf s 0 r (pass t seen) ≡ pass t seen
@@ -86,28 +114,6 @@ module _ (s : ParameterSet) where
   unfolding eachOf
   test-none [] t seen e = refl
   test-none (r ∷ rs) t seen e = ap (eachOf s 0 rs) (test-stays r t seen e) ∙ test-none rs t seen e
-
-  -- ---- a tally that allows every write
-
-  -- nothing is refused
-  record Clear (t : Tally) : Type 0 where
-    pub number : t .number ≡ 0
-    pub placed : t .placed ≡ true
-    pub words : t .words ≡ true
-    pub distinct : t .distinct ≡ true
-
-  write-all : (rs : List Record) (t : Tally) (store : List ℕ) → Clear t → placesBelow (t .places) rs ≡ true
-      → eachOf s 1 rs (pass t store) ≡ wrote t (pushFrom (treeOf s) (s .height) (changesOf (s .«node_size») rs) (counted store (t .made)))
-  unfolding eachOf placesBelow changesOf pushFrom stepOf writeOf mayWrite isClear
-  write-all [] t store C e = refl
-  write-all (r ∷ rs) t store C e =
-      let c : Counted = replaceFrom (treeOf s) (s .height) (r .place) (leafOf (s .«node_size») r) (counted store (t .made)) in
-      ap (eachOf s 1 rs) step-is
-      ∙ write-all rs (counting t (c .made)) (c .store) (record { number = C .number; placed = C .placed; words = C .words; distinct = C .distinct })
-      (right-true (ltb (r .place) (t .places)) (placesBelow (t .places) rs) e)
-    where
-      step-is : stepOf s 1 r (pass t store) ≡ wrote t (replaceFrom (treeOf s) (s .height) (r .place) (leafOf (s .«node_size») r) (counted store (t .made)))
-      step-is = rw (eq-eqb (t .number) 0 (C .number), C .placed, C .words, C .distinct, left-true (ltb (r .place) (t .places)) (placesBelow (t .places) rs) e)
 
 -- ---- all of them
 
@@ -129,7 +135,7 @@ module _ (s : ParameterSet) (xs : List ℕ) (ys : List Record) where
 
   -- the tally at the beginning, by the first of the early refusals
   abbrev first : ℕ → Tally
-  first k = begun k n (allWords (primeOf s) xs) (leb (length ys) keepable)
+  first k = begun k n (allWords (primeOf s) xs) (leb (length ys) keepable) (levelsBy (dimensionsOf s .arity) (s .height) n (length ys * 8)) (dimensionsOf s .arity)
 
   -- after the tests, and after the search
   abbrev tests : Tally → Tally
@@ -142,7 +148,7 @@ module _ (s : ParameterSet) (xs : List ℕ) (ys : List Record) where
   unfolding pushRefusals earlyRefusals
   refusals-are = sym (append-assoc (setRefusals s) (refusal 10 (not (has xs (storeWords s) && leb (length ys) (2 ^ 32))) ∷ []) late)
 
-  push-numbered : Numbered (pushRefusals s xs ys)
+  pub push-numbered : Numbered (pushRefusals s xs ys)
   unfolding pushRefusals notWords
   push-numbered = numbered-append (set-numbered s) (next (lit< tt) (next (lit< tt) (next (lit< tt) (next (lit< tt) none))))
 
@@ -154,7 +160,7 @@ module _ (s : ParameterSet) (xs : List ℕ) (ys : List Record) where
   Right u = (changedReply (finishOf (u .tally)) ≡ pushReply s xs ys) × (u .buffer ≡ pushed s xs ys)
 
   -- a push that stops with a number
-  is-refused : (k : ℕ) (t : Tally) → Stopped t → changedReply (finishOf t) ≡ refused k → k ≢ 0 → firstRefusal (pushRefusals s xs ys) ≡ k → Right (eachOf s 1 ys (pass t xs))
+  is-refused : (k : ℕ) (t : Tally) → Stopped t → changedReply (finishOf t) ≡ refused k → k ≢ 0 → firstRefusal (pushRefusals s xs ys) ≡ k → Right (write s ys (pass t xs))
   unfolding pushReply pushed
   is-refused k t S f o e =
       let E = refused-equations (pushRefusals s xs ys) (pushing s xs ys .made ∷ []) xs (pushing s xs ys .store) k (sym e) o in
@@ -172,10 +178,10 @@ module _ (s : ParameterSet) (xs : List ℕ) (ys : List Record) where
     judged-early : judges t₁ ≡ t₁
     judged-early = ap (λ (u : Pass). searchOf s ys (u .tally)) (test-none s ys t₁ room refused-early) ∙ search-none s ys t₁ (unwanted t₁ (unclear-early t₁ refused-early))
 
-    stops-early : Right (eachOf s 1 ys (pass (judges t₁) xs))
+    stops-early : Right (write s ys (pass (judges t₁) xs))
     unfolding finishOf changedReply
     stops-early =
-        subst (λ (t : Tally). Right (eachOf s 1 ys (pass t xs))) (sym judged-early)
+        subst (λ (t : Tally). Right (write s ys (pass t xs))) (sym judged-early)
         (is-refused (suc k) t₁ (inl (unclear-early t₁ refused-early)) (rw refused-early) (λ y. absurd (omega (arith, y)))
         (ap firstRefusal refusals-are ∙ first-front early-rows late (λ y. absurd (omega (arith, e, y))) ∙ e))
 
@@ -192,11 +198,11 @@ module _ (s : ParameterSet) (xs : List ℕ) (ys : List Record) where
     clear-number = eq-eqb (t₂ .number) 0 (T .number)
 
     -- 11 and 12 stop the push before the search
-    at-11 : placesBelow n ys ≡ false → Right (eachOf s 1 ys (pass (judges (first 0)) xs))
+    at-11 : placesBelow n ys ≡ false → Right (write s ys (pass (judges (first 0)) xs))
     unfolding finishOf changedReply
     at-11 f =
         let p : t₂ .placed ≡ false = T .placed ∙ f in
-        subst (λ (t : Tally). Right (eachOf s 1 ys (pass t xs))) (sym (search-none s ys t₂ (unwanted t₂ (unclear-places t₂ p))))
+        subst (λ (t : Tally). Right (write s ys (pass t xs))) (sym (search-none s ys t₂ (unwanted t₂ (unclear-places t₂ p))))
         (is-refused 11 t₂ (inl (unclear-places t₂ p)) (rw (clear-number, p)) (λ y. absurd (omega (arith, y))) (late-refusal e ∙ refusal-applies 11 (not (placesBelow n ys)) _ (ap not f)))
 
     module _ (below : placesBelow n ys ≡ true) where
@@ -209,11 +215,11 @@ module _ (s : ParameterSet) (xs : List ℕ) (ys : List Record) where
       all-words : allWords (primeOf s) (used ++ xs) ≡ (allWords (primeOf s) xs && allWords (primeOf s) used)
       all-words = words-both (primeOf s) used xs ∙ and-comm (allWords (primeOf s) used) (allWords (primeOf s) xs)
 
-      at-12 : (allWords (primeOf s) xs && allWords (primeOf s) used) ≡ false → Right (eachOf s 1 ys (pass (judges (first 0)) xs))
+      at-12 : (allWords (primeOf s) xs && allWords (primeOf s) used) ≡ false → Right (write s ys (pass (judges (first 0)) xs))
       unfolding finishOf changedReply
       at-12 f =
           let w : t₂ .words ≡ false = T .words ∙ f in
-          subst (λ (t : Tally). Right (eachOf s 1 ys (pass t xs))) (sym (search-none s ys t₂ (unwanted t₂ (unclear-words t₂ w))))
+          subst (λ (t : Tally). Right (write s ys (pass t xs))) (sym (search-none s ys t₂ (unwanted t₂ (unclear-words t₂ w))))
           (is-refused 12 t₂ (inl (unclear-words t₂ w)) (rw (clear-number, placed, w)) (λ y. absurd (omega (arith, y))) (after-11 ∙ twelve-first (primeOf s) (used ++ xs) _ (all-words ∙ f)))
 
       module _ (wordy : (allWords (primeOf s) xs && allWords (primeOf s) used) ≡ true) where
@@ -243,8 +249,8 @@ module _ (s : ParameterSet) (xs : List ℕ) (ys : List Record) where
             search-finds s ys t₂ (eachOf s 0 ys (pass (first 0) room) .buffer) (T .number) placed (T .words ∙ wordy)
             (subst (λ (m : ℕ). placesBelow m ys ≡ true) (sym (T .places)) below) all-seen
 
-        at-17 : (b : Bool) → repeats (placesOf ys) ≡ b → Right (eachOf s 1 ys (pass (finding t₂ (not b)) xs))
-        unfolding finishOf changedReply pushReply pushed push firstRefusal
+        at-17 : (b : Bool) → repeats (placesOf ys) ≡ b → Right (write s ys (pass (finding t₂ (not b)) xs))
+        unfolding finishOf changedReply pushReply pushed firstRefusal earlyRefusals
         at-17 true f =
             is-refused 17 (finding t₂ false) (inr refl) (rw (clear-number, placed, T .words ∙ wordy)) (λ y. absurd (omega (arith, y)))
             (after-12 ∙ refusal-applies 17 (repeats (placesOf ys)) [] f)
@@ -252,27 +258,42 @@ module _ (s : ParameterSet) (xs : List ℕ) (ys : List Record) where
             let t : Tally = finding t₂ true in
             let z = after-12 ∙ refusal-passes 17 (repeats (placesOf ys)) [] f in
             let E = done-equations (pushRefusals s xs ys) (pushing s xs ys .made ∷ []) xs (pushing s xs ys .store) push-numbered z in
-            let C : Clear s t = record { number = T .number; placed = placed; words = T .words ∙ wordy; distinct = refl } in
-            let W : eachOf s 1 ys (pass t xs) ≡ wrote t (pushing s xs ys) =
-            write-all s ys t xs C (subst (λ (m : ℕ). placesBelow m ys ≡ true) (sym (T .places)) below)
-            ∙ ap (λ (m : ℕ). wrote t (pushFrom (treeOf s) (s .height) (changesOf (s .«node_size») ys) (counted xs m))) (T .made) in
-            subst Right (sym W) (finished t (pushing s xs ys .made) C ∙ E .0, E .1)
+            let C : Clear t = record { number = T .number; placed = placed; words = T .words ∙ wordy; distinct = refl } in
+            let lengths = refusal-none 9 _ [] (first-none (setRefusals s) _ (set-numbered s) e .1) .0 in
+            let R : Ready s ys t xs = record {
+              clear = C;
+              accepted = first-none (setRefusals s) _ (set-numbered s) e .0;
+              places = T .places;
+              below = below;
+              whole = eqb-true (length xs) (storeWords s) (left-true (has xs (storeWords s)) (leb (length ys) (2 ^ 32)) (not-false _ lengths));
+              leaves = right-true (allWords (primeOf s) xs) (allWords (primeOf s) used) wordy;
+              words = left-true (allWords (primeOf s) xs) (allWords (primeOf s) used) wordy;
+              levels = rw (T .levels) (levels-few (dimensionsOf s .arity) (s .height) n (length ys * 8));
+              before = T .before;
+              under = T .under;
+              made = T .made;
+            } in
+            subst Right (sym (writes s ys t xs R)) (
+              finished (ranked t (rowsBefore (treeOf s) (s .height) (t .levels)) (dimensionsOf s .arity ^ suc (t .levels)) 0) (pushing s xs ys .made)
+                  (record { number = C .number; placed = C .placed; words = C .words; distinct = C .distinct }) ∙ E .0,
+              E .1,
+            )
           where
-            finished : (t : Tally) (m : ℕ) → Clear s t → changedReply (finishOf (counting t m)) ≡ Rattle.refusals.specs.Table.done (m ∷ [])
+            finished : (t : Tally) (m : ℕ) → Clear t → changedReply (finishOf (counting t m)) ≡ Rattle.refusals.specs.Table.done (m ∷ [])
             finished t m C = rw (eq-eqb (t .number) 0 (C .number), C .placed, C .words, C .distinct)
 
-        searched : Right (eachOf s 1 ys (pass (judges (first 0)) xs))
-        searched = subst (λ (t : Tally). Right (eachOf s 1 ys (pass t xs))) (sym judged) (at-17 (repeats (placesOf ys)) refl)
+        searched : Right (write s ys (pass (judges (first 0)) xs))
+        searched = subst (λ (t : Tally). Right (write s ys (pass t xs))) (sym judged) (at-17 (repeats (placesOf ys)) refl)
 
-    by-words : placesBelow n ys ≡ true → (w : Bool) → (allWords (primeOf s) xs && allWords (primeOf s) used) ≡ w → Right (eachOf s 1 ys (pass (judges (first 0)) xs))
+    by-words : placesBelow n ys ≡ true → (w : Bool) → (allWords (primeOf s) xs && allWords (primeOf s) used) ≡ w → Right (write s ys (pass (judges (first 0)) xs))
     by-words b true f = searched b f
     by-words b false f = at-12 b f
 
-    by-places : (b : Bool) → placesBelow n ys ≡ b → Right (eachOf s 1 ys (pass (judges (first 0)) xs))
+    by-places : (b : Bool) → placesBelow n ys ≡ b → Right (write s ys (pass (judges (first 0)) xs))
     by-places true f = by-words f (allWords (primeOf s) xs && allWords (primeOf s) used) refl
     by-places false f = at-11 f
 
-  by-early : (k : ℕ) → firstRefusal early-rows ≡ k → Right (eachOf s 1 ys (pass (judges (first k)) xs))
+  by-early : (k : ℕ) → firstRefusal early-rows ≡ k → Right (write s ys (pass (judges (first k)) xs))
   by-early zero e = by-places e (placesBelow n ys) refl
   by-early (suc k) e = stops-early k e
 
@@ -287,7 +308,13 @@ module _ (s : ParameterSet) (xs : List ℕ) (ys : List Record) where
   abbrev pub afterSearch : Tally
   afterSearch = searchOf s ys afterTests
 
-  pub pushes : Right (eachOf s 1 ys (pass afterSearch xs))
+  abbrev pub afterMarks : Pass
+  afterMarks = eachOf s 1 ys (pass afterSearch xs)
+
+  abbrev pub afterLevels : Pass
+  afterLevels = levelsOf s ys afterMarks
+
+  pub pushes : Right (sweepOf s afterLevels)
   unfolding beginOf
   pushes = by-early (firstRefusal early-rows) refl
 
@@ -309,26 +336,51 @@ module _ (s : ParameterSet) (xs : List ℕ) (ys : List Record) where
     record Way (t : Tally) : Type 0 where
       pub early : t .number ≡ 0 → firstRefusal early-rows ≡ 0
       pub places : t .number ≡ 0 → t .places ≡ n
+      pub levels : t .number ≡ 0 → t .levels ≤ s .height
+      pub before : t .number ≡ 0 → t .before ≡ 0
+      pub under : t .number ≡ 0 → t .under ≡ dimensionsOf s .arity
       pub made : t .made ≡ 0
 
-    asks : (phase : ℕ) (buffer : List ℕ) (t : Tally) → Way t → (t .number ≡ 0 → length xs ≡ storeWords s → length buffer ≡ roomOf s phase)
-        → (phase ≡ 0 → t .few ≡ true → t .kept + length ys ≤ keepable) → phase < 2 ^ 32 → Going s phase buffer t (length ys)
+    accepts : (t : Tally) → Way t → t .number ≡ 0 → firstRefusal (setRefusals s) ≡ 0
     unfolding earlyRefusals
-    asks phase buffer t way whole keeps low =
+    accepts t way f = first-none (setRefusals s) _ (set-numbered s) (way .early f) .0
+
+    fits : (t : Tally) → Way t → t .number ≡ 0 → length xs ≡ storeWords s
+    unfolding earlyRefusals
+    fits t way f =
+        let lengths = refusal-none 9 _ [] (first-none (setRefusals s) _ (set-numbered s) (way .early f) .1) .0 in
+        eqb-true (length xs) (storeWords s) (left-true (has xs (storeWords s)) (leb (length ys) (2 ^ 32)) (not-false _ lengths))
+
+    asks : (phase : ℕ) → (phase ≡ 2 → ⊥) → (buffer : List ℕ) (t : Tally) → Way t → (t .number ≡ 0 → length xs ≡ storeWords s → length buffer ≡ roomOf s phase)
+        → (phase ≡ 0 → t .few ≡ true → t .kept + length ys ≤ keepable) → phase < 2 ^ 32 → Going s phase buffer t (length ys)
+    asks phase other buffer t way whole keeps low =
         record {
-          accepted = λ f. first-none (setRefusals s) _ (set-numbered s) (way .early f) .0;
-          whole = λ f.
-              let lengths = refusal-none 9 _ [] (first-none (setRefusals s) _ (set-numbered s) (way .early f) .1) .0 in
-              whole f (eqb-true (length xs) (storeWords s) (left-true (has xs (storeWords s)) (leb (length ys) (2 ^ 32)) (not-false _ lengths)));
+          accepted = accepts t way;
+          whole = λ f. whole f (fits t way f);
           places = way .places;
           keeps = keeps;
           counts = omega (arith, bytes, way .made);
+          rank = λ z. absurd (other z);
           low = low;
         }
 
     way-first : (k : ℕ) → firstRefusal early-rows ≡ k → Way (first k)
-    way-first zero e = record { early = λ f. e; places = λ f. refl; made = refl }
-    way-first (suc k) e = record { early = λ f. absurd (omega (arith, f)); places = λ f. absurd (omega (arith, f)); made = refl }
+    way-first zero e = record {
+      early = λ f. e;
+      places = λ f. refl;
+      levels = λ f. levels-few (dimensionsOf s .arity) (s .height) n (length ys * 8);
+      before = λ f. refl;
+      under = λ f. refl;
+      made = refl;
+    }
+    way-first (suc k) e = record {
+      early = λ f. absurd (omega (arith, f));
+      places = λ f. absurd (omega (arith, f));
+      levels = λ f. absurd (omega (arith, f));
+      before = λ f. absurd (omega (arith, f));
+      under = λ f. absurd (omega (arith, f));
+      made = refl;
+    }
 
     keeps-first : (k : ℕ) → first k .few ≡ true → first k .kept + length ys ≤ keepable
     keeps-first zero f = omega (arith, leb-true (length ys) keepable f)
@@ -337,23 +389,100 @@ module _ (s : ParameterSet) (xs : List ℕ) (ys : List Record) where
     way-tests : (k : ℕ) → firstRefusal early-rows ≡ k → Way (tests (first k))
     way-tests zero e =
         let T = tested-all s ys (first 0) room refl in
-        record { early = λ f. e; places = λ f. T .places; made = T .made }
+        record {
+          early = λ f. e;
+          places = λ f. T .places;
+          levels = λ f. rw (T .levels) (levels-few (dimensionsOf s .arity) (s .height) n (length ys * 8));
+          before = λ f. T .before;
+          under = λ f. T .under;
+          made = T .made;
+        }
     way-tests (suc k) e =
         subst Way (sym (ap (λ (u : Pass). u .tally) (test-none s ys (first (suc k)) room (ne-eqb (suc k) 0 (λ z. absurd (omega (arith, z))))))) (way-first (suc k) e)
 
     way-search : (t : Tally) → Way t → Way (searchOf s ys t)
     way-search t way =
         let d = search-only s ys t in
-        subst Way (sym (d .1)) (record { early = way .early; places = way .places; made = way .made })
+        subst Way (sym (d .1)) (record { early = way .early; places = way .places; levels = way .levels; before = way .before; under = way .under; made = way .made })
 
     pub first-asks : Going s 0 (replicate keepable 0) begins (length ys)
     unfolding beginOf roomOf
-    first-asks = asks 0 room begins (way-first (firstRefusal early-rows) refl) (λ f l. length-replicate {A = ℕ} keepable 0) (λ z. keeps-first (firstRefusal early-rows)) (lit< tt)
+    first-asks = asks 0 (λ z. absurd (omega (arith, z))) room begins (way-first (firstRefusal early-rows) refl) (λ f l. length-replicate {A = ℕ} keepable 0) (λ z. keeps-first (firstRefusal early-rows)) (lit< tt)
 
-    pub second-asks : Going s 2 (replicate mapWords 0) afterTests (length ys)
+    pub second-asks : Going s 3 (replicate mapWords 0) afterTests (length ys)
     unfolding beginOf roomOf
-    second-asks = asks 2 (replicate mapWords 0) afterTests (way-tests (firstRefusal early-rows) refl) (λ f l. length-replicate {A = ℕ} mapWords 0) (λ z. absurd (omega (arith, z))) (lit< tt)
+    second-asks = asks 3 (λ z. absurd (omega (arith, z))) (replicate mapWords 0) afterTests (way-tests (firstRefusal early-rows) refl) (λ f l. length-replicate {A = ℕ} mapWords 0) (λ z. absurd (omega (arith, z))) (lit< tt)
+
+    searched-way : Way afterSearch
+    unfolding beginOf
+    searched-way = way-search afterTests (way-tests (firstRefusal early-rows) refl)
 
     pub third-asks : Going s 1 xs afterSearch (length ys)
-    unfolding beginOf roomOf
-    third-asks = asks 1 xs afterSearch (way-search afterTests (way-tests (firstRefusal early-rows) refl)) (λ f l. l) (λ z. absurd (omega (arith, z))) (lit< tt)
+    unfolding roomOf
+    third-asks = asks 1 (λ z. absurd (omega (arith, z))) xs afterSearch searched-way (λ f l. l) (λ z. absurd (omega (arith, z))) (lit< tt)
+
+    -- the marks leave the tally
+    marks-tally : (rs : List Record) (u : Pass) → eachOf s 1 rs u .tally ≡ u .tally
+    unfolding eachOf stepOf markOf
+    marks-tally [] u = refl
+    marks-tally (r ∷ rs) u = marks-tally rs (stepOf s 1 r u) ∙ go (mayWrite (u .tally) (r .place))
+      where
+        go : (b : Bool) → cond b (pass (u .tally) (markChange (treeOf s) mark (s .height) (record { place = r .place; leaf = leafOf (s .«node_size») r }) (u .buffer))) u .tally ≡ u .tally
+        go true = refl
+        go false = refl
+
+    -- what the levels ask, and the nodes above them
+    module _ (t : Tally) (zs : List ℕ) (e : t ≡ afterMarks .tally) (long : length zs ≡ length xs) where
+      tally-is : t ≡ afterSearch
+      tally-is = e ∙ marks-tally ys (pass afterSearch xs)
+
+      way-marks : Way t
+      way-marks = subst Way (sym tally-is) searched-way
+
+      pub fourth-asks : Rising s zs t (length ys)
+      fourth-asks = record {
+        accepted = accepts t way-marks;
+        whole = λ f. long ∙ fits t way-marks f;
+        places = way-marks .places;
+        levels = way-marks .levels;
+        before = way-marks .before;
+        under = way-marks .under;
+        counts = omega (arith, bytes, way-marks .made);
+      }
+
+      pub fifth-asks : (t′ : Tally) (zs′ : List ℕ) → t′ ≡ levelsOf s ys (pass t zs) .tally → length zs′ ≡ length zs → Sweeping s zs′ t′
+      unfolding levelsOf
+      fifth-asks t′ zs′ f same = subst (Sweeping s zs′) (sym f) (go (eqb (t .number) 0) refl)
+        where
+          go : (b : Bool) → eqb (t .number) 0 ≡ b → Sweeping s zs′ (levelsUpTo s ys (byRecords t) (pass t zs) .tally)
+          go true g =
+              let z : t .number ≡ 0 = eqb-true (t .number) 0 g in
+              let none = accepts t way-marks z in
+              let low : byRecords t ≤ s .height = omega (arith, by-few t, way-marks .levels z) in
+              let N = levels-at s ys t zs none (way-marks .places z) (way-marks .before z) (way-marks .under z) (byRecords t) low in
+              subst (Sweeping s zs′) (sym (N .is))
+              (record {
+                accepted = λ h. none;
+                whole = λ h. same ∙ long ∙ fits t way-marks z;
+                places = λ h. way-marks .places z;
+                first = λ h. before-inside s none (byRecords t) low;
+                counts = λ h.
+                    omega (
+                      arith,
+                      N .few,
+                      way-marks .made,
+                      way-marks .places z,
+                      tree-of.valid-numbers s none .few,
+                      bytes,
+                      mul-le-mul-right {m = byRecords t} {n = 32} (length ys) (omega (arith, low, tree-of.valid-numbers s none .low)),
+                    );
+              })
+          go false g =
+              subst (λ (u : Pass). Sweeping s zs′ (u .tally)) (sym (levels-none s ys (pass t zs) (no-rise t (inl (unclear-early t g)))))
+              (record {
+                accepted = λ h. absurd (false≢true (sym g ∙ eq-eqb (t .number) 0 h));
+                whole = λ h. absurd (false≢true (sym g ∙ eq-eqb (t .number) 0 h));
+                places = λ h. absurd (false≢true (sym g ∙ eq-eqb (t .number) 0 h));
+                first = λ h. absurd (false≢true (sym g ∙ eq-eqb (t .number) 0 h));
+                counts = λ h. absurd (false≢true (sym g ∙ eq-eqb (t .number) 0 h));
+              })

@@ -27,7 +27,7 @@ pushRefusals s store rs =
     ∷ notWords (primeOf s) (usedWords (s .«node_size») rs ++ store)
     ∷ refusal 17 (repeats (placesOf rs)) ∷ [])
 
--- The replacements in the order of the records, under one count (Rules 5.4).
+-- What the records done singly leave, and the count of the different nodes above their places (Rules 5.4).
 abbrev pub pushing : ParameterSet → List ℕ → List Record → Counted
 pushing s store rs = push (treeOf s) (s .height) (changesOf (s .«node_size») rs) store
 

@@ -7,12 +7,13 @@ ghost use Rattle.parameters.specs.ParameterSet.{setRefusals};
 ghost use Rattle.push_entries.specs.Ends.{beginOf, finishOf};
 use change_entries::Changed;
 use parameters::ParameterSet;
+use pushes::levels;
 use pushes::tally::Tally;
 use trees::sets;
 
 // The beginning of a push that one of refusals 1 to 10 stops.
 fn refused(number: u8) -> Tally
-    ensures { λ r. ⌜ r ≡ record { number = number; places = 0; placed = true; words = true; distinct = true; rising = true; above = 0; few = false; kept = 0; made = 0 } ⌝ }
+    ensures { λ r. ⌜ r ≡ record { number = number; places = 0; placed = true; words = true; distinct = true; rising = true; above = 0; few = false; kept = 0; levels = 0; before = 0; under = 0; made = 0 } ⌝ }
 {
     Tally {
         number: number,
@@ -24,12 +25,15 @@ fn refused(number: u8) -> Tally
         above: 0,
         few: false,
         kept: 0,
+        levels: 0,
+        before: 0,
+        under: 0,
         made: 0,
     }
 }
 
-// What a push begins with: the first of refusals 1 to 10 that applies, or the places, whether the store is words and whether the records
-// are few.
+// What a push begins with: the first of refusals 1 to 10 that applies, or the places, whether the store is words, whether the records are
+// few, and how many levels have more than eight nodes a record.
 pub fn begin(set: ParameterSet, store: &[u64], count: usize) -> Tally
     ensures { λ r. ⌜ r ≡ beginOf set (now (store .entry)) count ⌝ }
 {
@@ -43,9 +47,11 @@ pub fn begin(set: ParameterSet, store: &[u64], count: usize) -> Tally
     if 4294967296 < count {
         return refused(10);
     }
+    let d = sets::dimensions(set);
+    let places = sets::places(set) as u64;
     Tally {
         number: 0,
-        places: sets::places(set) as u64,
+        places: places,
         placed: true,
         words: parameters::all_words(store),
         distinct: true,
@@ -53,6 +59,9 @@ pub fn begin(set: ParameterSet, store: &[u64], count: usize) -> Tally
         above: 0,
         few: count <= 128,
         kept: 0,
+        levels: levels::count(d.arity as u64, set.height, places, count as u64 * 8),
+        before: 0,
+        under: d.arity,
         made: 0,
     }
 }

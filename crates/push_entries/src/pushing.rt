@@ -7,10 +7,11 @@ use crate::ends;
 use change_entries::Changed;
 use parameters::ParameterSet;
 use pushes::Record;
+use pushes::levels;
 use pushes::passes;
 
-// All records are tested, a place that stands twice is searched, and then all are written, in order; or none is. The places that are
-// compared are kept in an array.
+// All records are tested and a place that stands twice is searched; then all leaves are written, the nodes above them marked, and the marked
+// nodes rewritten level by level; or nothing is written. The places that are compared are kept in an array.
 pub fn push(set: ParameterSet, store: &mut [u64], records: &[Record]) -> Changed
     ensures { λ r. ⌜ (changedReply r ≡ pushReply set (now (store .entry)) (now (records .entry)))
         × (now (store .exit) ≡ pushed set (now (store .entry)) (now (records .entry))) ⌝ }
@@ -19,8 +20,10 @@ pub fn push(set: ParameterSet, store: &mut [u64], records: &[Record]) -> Changed
     let mut seen = [0u64; 128];
     let tested = passes::each(set, &mut seen, records, passes::TEST, begun);
     let searched = passes::search(set, records, tested);
-    let written = passes::each(set, store, records, passes::WRITE, searched);
-    ends::finish(written)
+    let marked = passes::each(set, store, records, passes::MARK, searched);
+    let risen = passes::rise(set, store, records, marked);
+    let swept = levels::sweep(set, store, risen);
+    ends::finish(swept)
 }
 
 // The same of the records of a list of numbers.
@@ -38,6 +41,8 @@ pub fn push_listed(set: ParameterSet, store: &mut [u64], numbers: &[u64]) -> Cha
     let mut seen = [0u64; 128];
     let tested = passes::each_listed(set, &mut seen, numbers, passes::TEST, begun);
     let searched = passes::search_listed(set, numbers, tested);
-    let written = passes::each_listed(set, store, numbers, passes::WRITE, searched);
-    ends::finish(written)
+    let marked = passes::each_listed(set, store, numbers, passes::MARK, searched);
+    let risen = passes::rise_listed(set, store, numbers, marked);
+    let swept = levels::sweep(set, store, risen);
+    ends::finish(swept)
 }

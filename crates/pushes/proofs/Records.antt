@@ -2,26 +2,29 @@
 use mathlib.Core.Path.{_≡_, refl, sym, subst, _∙_}
 use mathlib.Core.Bool.{Bool, true, false, cond, _&&_}
 use mathlib.Core.List.{List}
-use Prim.Native.Nat.{ℕ, suc, _+_, _*_, _-_, _≤_, _<_}
+use Prim.Native.Nat.{ℕ, suc, _+_, _*_, _-_, _/_, _≤_, _<_}
 use native.Mathlib.Nat.{mul-le-mul-right}
 use native.Mathlib.Omega.{arith}
 use lib.Dec.{eqb, ltb}
 use lib.ListN.{length}
-use borrow.Author.Tests.{ne-eqb, eqb-true, ltb-true}
+use borrow.Author.Tests.{ne-eqb, eqb-true, ltb-true, le-ltb}
 use Rattle.modular.proofs.Words.{left-true, right-true}
 use Rattle.refusals.specs.Table.{firstRefusal}
 use Rattle.parameters.specs.declared.ParameterSet.{ParameterSet}
 use Rattle.parameters.specs.ParameterSet.{setRefusals}
-use Rattle.merkle.specs.Replacement.{Counted, replaceFrom}
-use Rattle.merkle.proofs.Replacement.{replace-made}
+use Rattle.merkle.specs.Levels.{Shape}
+use Rattle.merkle.specs.Marks.{isMarked, markChange, rewriteMarked}
+use Rattle.merkle.specs.Numbering.{writeNode}
+use Rattle.merkle.specs.Replacement.{Counted, Change}
 use Rattle.repeats.specs.Maps.{window, mapWords, note}
 use Rattle.trees.specs.Shapes.{counted}
 use Rattle.trees.specs.SetTrees.{treeOf}
 use Rattle.trees.proofs.SetTrees as tree-of
+use Rattle.marks.specs.Marks.{mark}
 use Rattle.pushes.specs.declared.record.Record.{Record}
 use Rattle.pushes.specs.declared.tally.Tally.{Tally}
 use Rattle.pushes.specs.Records.{leafOf}
-use Rattle.pushes.specs.Passes.{Pass, Going, oneMore, tested, testOf, isClear, mayWrite, wrote, writeOf, found, noteOf, stepOf, roomOf}
+use Rattle.pushes.specs.Passes.{Pass, pass, Going, oneMore, tested, testOf, isClear, mayWrite, wrote, markOf, riseOf, found, noteOf, stepOf, roomOf}
 
 -- a leaf is among a record's six words
 pub leaf-in-record : (s : ParameterSet) → firstRefusal (setRefusals s) ≡ 0 → s .«node_size» ≤ 6
@@ -46,10 +49,12 @@ pub record Follows (t t′ : Tally) : Type 0 where
   pub places : t′ .places ≡ t .places
   pub few : t′ .few ≡ t .few
   pub kept : t′ .kept ≤ t .kept + 1
+  pub before : t′ .before ≡ t .before
+  pub under : t′ .under ≡ t .under
   pub made : t′ .made ≤ t .made + 32
 
 same : (t : Tally) → Follows t t
-same t = record { number = refl; places = refl; few = refl; kept = omega arith; made = omega arith }
+same t = record { number = refl; places = refl; few = refl; kept = omega arith; before = refl; under = refl; made = omega arith }
 
 test-follows : (s : ParameterSet) (r : Record) (u : Pass) → Follows (u .tally) (testOf s r u .tally)
 unfolding testOf oneMore
@@ -65,53 +70,76 @@ test-follows s r u = go (eqb (u .tally .number) 0) refl
       places = refl;
       few = refl;
       kept = at-most (u .tally .few) (u .tally .kept);
+      before = refl;
+      under = refl;
       made = omega arith;
     }
     go false e = same (u .tally)
 
-write-follows : (s : ParameterSet) (r : Record) (u : Pass) → (u .tally .number ≡ 0 → firstRefusal (setRefusals s) ≡ 0) → Follows (u .tally) (writeOf s r u .tally)
-unfolding writeOf
-write-follows s r u accepted = go (mayWrite (u .tally) (r .place)) refl
+mark-follows : (s : ParameterSet) (r : Record) (u : Pass) → Follows (u .tally) (markOf s r u .tally)
+unfolding markOf
+mark-follows s r u = go (mayWrite (u .tally) (r .place))
+  where
+    marked : List ℕ
+    marked = markChange (treeOf s) mark (s .height) (record { place = r .place; leaf = leafOf (s .«node_size») r }) (u .buffer)
+
+    go : (b : Bool) → Follows (u .tally) (cond b (pass (u .tally) marked) u .tally)
+    go true = same (u .tally)
+    go false = same (u .tally)
+
+-- a rewriting counts one, or none
+pub one-at-most : (S : Shape) (w n : ℕ) (c : Counted) → rewriteMarked S mark w n c .made ≤ c .made + 1
+unfolding rewriteMarked writeNode
+one-at-most S w n c = go (isMarked S mark w n (c .store))
+  where
+    go : (b : Bool) → cond b (writeNode S w n c) c .made ≤ c .made + 1
+    go true = omega arith
+    go false = omega arith
+
+rise-follows : (s : ParameterSet) (q : ℕ) (u : Pass) → Follows (u .tally) (riseOf s q u .tally)
+unfolding riseOf
+rise-follows s q u = go (mayWrite (u .tally) q)
   where
     done : Counted
-    done = replaceFrom (treeOf s) (s .height) (r .place) (leafOf (s .«node_size») r) (counted (u .buffer) (u .tally .made))
+    done = rewriteMarked (treeOf s) mark (u .tally .places) (u .tally .before + q / u .tally .under) (counted (u .buffer) (u .tally .made))
 
-    go : (b : Bool) → mayWrite (u .tally) (r .place) ≡ b → Follows (u .tally) (cond b (wrote (u .tally) done) u .tally)
-    go true e =
-        let none = accepted (may-unrefused (u .tally) (r .place) e) in
-        let counts : done .made ≡ u .tally .made + s .height =
-        replace-made (treeOf s) (tree-of.shape-regular s none) (s .height) (r .place) (leafOf (s .«node_size») r) (counted (u .buffer) (u .tally .made)) in
-        record { number = refl; places = refl; few = refl; kept = omega arith; made = omega (arith, counts, tree-of.valid-numbers s none .low) }
-    go false e = same (u .tally)
+    go : (b : Bool) → Follows (u .tally) (cond b (wrote (u .tally) done) u .tally)
+    go true =
+        let few = one-at-most (treeOf s) (u .tally .places) (u .tally .before + q / u .tally .under) (counted (u .buffer) (u .tally .made)) in
+        record { number = refl; places = refl; few = refl; kept = omega arith; before = refl; under = refl; made = omega arith }
+    go false = same (u .tally)
 
 note-follows : (base q : ℕ) (u : Pass) → Follows (u .tally) (noteOf base q u .tally)
 unfolding noteOf
 note-follows base q u = go (eqb (u .tally .number) 0 && u .tally .distinct)
   where
     go : (b : Bool) → Follows (u .tally) (cond b (found (u .tally) (note base q (u .buffer))) u .tally)
-    go true = record { number = refl; places = refl; few = refl; kept = omega arith; made = omega arith }
+    go true = record { number = refl; places = refl; few = refl; kept = omega arith; before = refl; under = refl; made = omega arith }
     go false = same (u .tally)
 
-step-follows : (s : ParameterSet) (phase : ℕ) (r : Record) (u : Pass) → (u .tally .number ≡ 0 → firstRefusal (setRefusals s) ≡ 0) → Follows (u .tally) (stepOf s phase r u .tally)
+step-follows : (s : ParameterSet) (phase : ℕ) (r : Record) (u : Pass) → Follows (u .tally) (stepOf s phase r u .tally)
 unfolding stepOf
-step-follows s phase r u accepted = go (eqb phase 0) (eqb phase 1)
+step-follows s phase r u = go (eqb phase 0) (eqb phase 1) (eqb phase 2)
   where
-    go : (a b : Bool) → Follows (u .tally) (cond a (testOf s r u) (cond b (writeOf s r u) (noteOf ((phase - 2) * window) (r .place) u)) .tally)
-    go true b = test-follows s r u
-    go false true = write-follows s r u accepted
-    go false false = note-follows ((phase - 2) * window) (r .place) u
+    go : (a b c : Bool)
+        → Follows (u .tally) (cond a (testOf s r u) (cond b (markOf s r u) (cond c (riseOf s (r .place) u) (noteOf ((phase - 3) * window) (r .place) u))) .tally)
+    go true b c = test-follows s r u
+    go false true c = mark-follows s r u
+    go false false true = rise-follows s (r .place) u
+    go false false false = note-follows ((phase - 3) * window) (r .place) u
 
 -- after a step a pass goes on, with a record less before it
 pub goes-on : (s : ParameterSet) (phase : ℕ) (r : Record) (u : Pass) (buffer : List ℕ) (n : ℕ) → length buffer ≡ length (u .buffer)
     → Going s phase (u .buffer) (u .tally) (suc n) → Going s phase buffer (stepOf s phase r u .tally) n
 goes-on s phase r u buffer n e G =
-    let F = step-follows s phase r u (G .accepted) in
+    let F = step-follows s phase r u in
     record {
       accepted = λ z. G .accepted (sym (F .number) ∙ z);
       whole = λ z. e ∙ G .whole (sym (F .number) ∙ z);
       places = λ z. F .places ∙ G .places (sym (F .number) ∙ z);
       keeps = λ z f. omega (arith, F .kept, G .keeps z (sym (F .few) ∙ f));
       counts = omega (arith, F .made, G .counts);
+      rank = λ z f. rw (F .before, F .under) (G .rank z (sym (F .number) ∙ f));
       low = G .low;
     }
 
@@ -121,9 +149,14 @@ module _ {s : ParameterSet} {phase : ℕ} {buffer : List ℕ} {t : Tally} {n : �
   pub going-first : phase ≡ 0 → Going s phase buffer t n → Going s 0 buffer t n
   going-first e G = subst (λ (m : ℕ). Going s m buffer t n) e G
 
-  pub going-write : phase ≡ 1 → Going s phase buffer t n → Going s 1 buffer t n
-  going-write e G = subst (λ (m : ℕ). Going s m buffer t n) e G
+  pub going-mark : phase ≡ 1 → Going s phase buffer t n → Going s 1 buffer t n
+  going-mark e G = subst (λ (m : ℕ). Going s m buffer t n) e G
 
-  pub going-note : (phase ≡ 0 → ⊥) → (phase ≡ 1 → ⊥) → Going s phase buffer t n → t .number ≡ 0 → length buffer ≡ mapWords
+  pub going-level : phase ≡ 2 → Going s phase buffer t n → Going s 2 buffer t n
+  going-level e G = subst (λ (m : ℕ). Going s m buffer t n) e G
+
+  pub going-note : (phase ≡ 0 → ⊥) → (phase ≡ 1 → ⊥) → (phase ≡ 2 → ⊥) → Going s phase buffer t n → t .number ≡ 0 → length buffer ≡ mapWords
   unfolding roomOf
-  going-note a b G z = G .whole z ∙ rw (ne-eqb phase 0 a, ne-eqb phase 1 b)
+  going-note a b c G z =
+      let high : 3 ≤ phase = omega arith in
+      G .whole z ∙ rw (ne-eqb phase 0 a, le-ltb phase 3 high)

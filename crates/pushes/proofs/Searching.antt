@@ -7,7 +7,7 @@ use native.Mathlib.Decide.{decLt}
 use native.Mathlib.Omega.{arith}
 use lib.Dec.{eqb, ltb}
 use lib.ListN.{replicate}
-use borrow.Author.Tests.{eq-eqb, ne-eqb, eqb-true, ltb-true}
+use borrow.Author.Tests.{eq-eqb, ne-eqb, eqb-true, ltb-true, le-ltb}
 use Rattle.modular.proofs.Words.{left-true, right-true}
 use Rattle.parameters.specs.declared.ParameterSet.{ParameterSet}
 use Rattle.repeats.specs.Repeats.{repeats}
@@ -35,17 +35,17 @@ record Found (ps : List ℕ) (LookedFor : ℕ → Type 0) (t u : Tally) : Type 0
 -- ---- one window
 
 module _ (s : ParameterSet) (w : ℕ) where
-  step-notes : (r : Record) (u : Pass) → stepOf s (2 + w) r u ≡ noteOf (w * window) (r .place) u
+  step-notes : (r : Record) (u : Pass) → stepOf s (3 + w) r u ≡ noteOf (w * window) (r .place) u
   unfolding stepOf
   step-notes r u =
-      let e : 2 + w - 2 ≡ w = omega arith in
-      rw (ne-eqb (2 + w) 0 (λ z. absurd (omega arith)), ne-eqb (2 + w) 1 (λ z. absurd (omega arith)), e)
+      let e : 3 + w - 3 ≡ w = omega arith in
+      rw (ne-eqb (3 + w) 0 (λ z. absurd (omega arith)), ne-eqb (3 + w) 1 (λ z. absurd (omega arith)), ne-eqb (3 + w) 2 (λ z. absurd (omega arith)), e)
 
   -- what was found stays
-  found-stays : (rs : List Record) (t : Tally) (map : List ℕ) → t .distinct ≡ false → eachOf s (2 + w) rs (pass t map) ≡ pass t map
+  found-stays : (rs : List Record) (t : Tally) (map : List ℕ) → t .distinct ≡ false → eachOf s (3 + w) rs (pass t map) ≡ pass t map
   unfolding eachOf noteOf
   found-stays [] t map e = refl
-  found-stays (r ∷ rs) t map e = ap (eachOf s (2 + w) rs) (step-notes r (pass t map) ∙ stays) ∙ found-stays rs t map e
+  found-stays (r ∷ rs) t map e = ap (eachOf s (3 + w) rs) (step-notes r (pass t map) ∙ stays) ∙ found-stays rs t map e
     where
       stays : noteOf (w * window) (r .place) (pass t map) ≡ pass t map
       stays = ap (λ (b : Bool). cond b (found t (note (w * window) (r .place) map)) (pass t map)) (ap (λ (b : Bool). eqb (t .number) 0 && b) e ∙ and-false (eqb (t .number) 0))
@@ -55,7 +55,7 @@ module _ (s : ParameterSet) (w : ℕ) where
   Passed ps t u = Found ps (λ q. (w * window ≤ q) × (q - w * window < window)) t u
 
   window-pass : (rs : List Record) (ps : List ℕ) (t : Tally) (map : List ℕ) → t .number ≡ 0 → t .distinct ≡ true → Noted (w * window) ps map
-      → Passed (ps ++ placesOf rs) t (eachOf s (2 + w) rs (pass t map) .tally)
+      → Passed (ps ++ placesOf rs) t (eachOf s (3 + w) rs (pass t map) .tally)
   unfolding eachOf placesOf noteOf
   window-pass [] ps t map e f N = record {
     distinct = true;
@@ -69,22 +69,22 @@ module _ (s : ParameterSet) (w : ℕ) where
       q = r .place
 
       -- the step, by whether the place was noted before
-      step-is : (b : Bool) → note (w * window) q map .again ≡ b → stepOf s (2 + w) r (pass t map) ≡ pass (finding t (not b)) (note (w * window) q map .map)
+      step-is : (b : Bool) → note (w * window) q map .again ≡ b → stepOf s (3 + w) r (pass t map) ≡ pass (finding t (not b)) (note (w * window) q map .map)
       step-is b g =
           step-notes r (pass t map)
           ∙ ap (λ (c : Bool). cond c (found t (note (w * window) q map)) (pass t map)) (ap (λ (c : Bool). c && t .distinct) (eq-eqb (t .number) 0 e) ∙ f)
           ∙ ap (λ (c : Bool). pass (finding t (not c)) (note (w * window) q map .map)) g
 
-      on : (u : Tally) → eachOf s (2 + w) rs (stepOf s (2 + w) r (pass t map)) .tally ≡ u → Passed ((ps ++ (q ∷ [])) ++ placesOf rs) t u
-          → Passed (ps ++ (q ∷ placesOf rs)) t (eachOf s (2 + w) rs (stepOf s (2 + w) r (pass t map)) .tally)
+      on : (u : Tally) → eachOf s (3 + w) rs (stepOf s (3 + w) r (pass t map)) .tally ≡ u → Passed ((ps ++ (q ∷ [])) ++ placesOf rs) t u
+          → Passed (ps ++ (q ∷ placesOf rs)) t (eachOf s (3 + w) rs (stepOf s (3 + w) r (pass t map)) .tally)
       on u g P = subst (λ (v : Tally). Passed (ps ++ (q ∷ placesOf rs)) t v) (sym g) (subst (λ (xs : List ℕ). Passed xs t u) (append-assoc ps (q ∷ []) (placesOf rs)) P)
 
       go : (b : Bool) → note (w * window) q map .again ≡ b
-          → ((ps : List ℕ) (t : Tally) (map : List ℕ) → t .number ≡ 0 → t .distinct ≡ true → Noted (w * window) ps map → Passed (ps ++ placesOf rs) t (eachOf s (2 + w) rs (pass t map) .tally))
-          → Passed (ps ++ (q ∷ placesOf rs)) t (eachOf s (2 + w) rs (stepOf s (2 + w) r (pass t map)) .tally)
+          → ((ps : List ℕ) (t : Tally) (map : List ℕ) → t .number ≡ 0 → t .distinct ≡ true → Noted (w * window) ps map → Passed (ps ++ placesOf rs) t (eachOf s (3 + w) rs (pass t map) .tally))
+          → Passed (ps ++ (q ∷ placesOf rs)) t (eachOf s (3 + w) rs (stepOf s (3 + w) r (pass t map)) .tally)
       go true g ih =
           on (finding t false)
-          (ap (λ (u : Pass). eachOf s (2 + w) rs u .tally) (step-is true g) ∙ ap (λ (u : Pass). u .tally) (found-stays rs (finding t false) (note (w * window) q map .map) refl))
+          (ap (λ (u : Pass). eachOf s (3 + w) rs u .tally) (step-is true g) ∙ ap (λ (u : Pass). u .tally) (found-stays rs (finding t false) (note (w * window) q map .map) refl))
           (record {
             distinct = false;
             is = refl;
@@ -95,8 +95,8 @@ module _ (s : ParameterSet) (w : ℕ) where
           let t′ : Tally = finding t true in
           let map′ : List ℕ = note (w * window) q map .map in
           let P = ih (ps ++ (q ∷ [])) t′ map′ e refl (noted-new (w * window) ps q map N g) in
-          on (eachOf s (2 + w) rs (pass t′ map′) .tally)
-          (ap (λ (u : Pass). eachOf s (2 + w) rs u .tally) (step-is false g))
+          on (eachOf s (3 + w) rs (pass t′ map′) .tally)
+          (ap (λ (u : Pass). eachOf s (3 + w) rs u .tally) (step-is false g))
           (record { distinct = P .distinct; is = P .is; sound = P .sound; complete = P .complete })
 
 -- ---- all windows
@@ -114,10 +114,10 @@ module _ (s : ParameterSet) (rs : List Record) (t : Tally) (unrefused : t .numbe
       go (F .distinct) (F .is) (F .sound) (F .complete)
     where
       go : (d : Bool) → windowsOf s rs n t ≡ finding t d → (d ≡ false → repeats (placesOf rs) ≡ true) → (d ≡ true → (q : ℕ) → q < n * window → times q (placesOf rs) ≤ 1)
-          → FirstFound rs (suc n) t (eachOf s (2 + n) rs (pass (windowsOf s rs n t) zeros) .tally)
+          → FirstFound rs (suc n) t (eachOf s (3 + n) rs (pass (windowsOf s rs n t) zeros) .tally)
       go false e sound complete = record {
         distinct = false;
-        is = ap (λ (u : Tally). eachOf s (2 + n) rs (pass u zeros) .tally) e ∙ ap (λ (u : Pass). u .tally) (found-stays s n rs (finding t false) zeros refl);
+        is = ap (λ (u : Tally). eachOf s (3 + n) rs (pass u zeros) .tally) e ∙ ap (λ (u : Pass). u .tally) (found-stays s n rs (finding t false) zeros refl);
         sound = sound;
         complete = λ f. absurd (false≢true f);
       }
@@ -125,7 +125,7 @@ module _ (s : ParameterSet) (rs : List Record) (t : Tally) (unrefused : t .numbe
           let P = window-pass s n rs [] (finding t true) zeros unrefused refl (noted-none (n * window)) in
           record {
             distinct = P .distinct;
-            is = ap (λ (u : Tally). eachOf s (2 + n) rs (pass u zeros) .tally) e ∙ P .is;
+            is = ap (λ (u : Tally). eachOf s (3 + n) rs (pass u zeros) .tally) e ∙ P .is;
             sound = P .sound;
             complete = λ f q b. by-window f q b (P .complete f) (decLt q (n * window));
           }
@@ -161,13 +161,13 @@ found-all rs n m t u F b h = F .is ∙ ap (finding t) (go (F .distinct) (F .soun
 module _ (s : ParameterSet) (rs : List Record) (t : Tally) where
   pub search-none : wanted t ≡ false → searchOf s rs t ≡ t
   unfolding searchOf searchEnd windowsOf
-  search-none e = ap (λ (b : Bool). windowsOf s rs (cond b (2 + windowsFor (t .places)) 2 - 2) t) e
+  search-none e = ap (λ (b : Bool). windowsOf s rs (cond b (3 + windowsFor (t .places)) 3 - 3) t) e
 
   search-all : wanted t ≡ true → searchOf s rs t ≡ windowsOf s rs (windowsFor (t .places)) t
   unfolding searchOf searchEnd
   search-all e =
-      let f : 2 + windowsFor (t .places) - 2 ≡ windowsFor (t .places) = omega arith in
-      ap (λ (b : Bool). windowsOf s rs (cond b (2 + windowsFor (t .places)) 2 - 2) t) e ∙ ap (λ (n : ℕ). windowsOf s rs n t) f
+      let f : 3 + windowsFor (t .places) - 3 ≡ windowsFor (t .places) = omega arith in
+      ap (λ (b : Bool). windowsOf s rs (cond b (3 + windowsFor (t .places)) 3 - 3) t) e ∙ ap (λ (n : ℕ). windowsOf s rs n t) f
 
   -- After the tests it is known whether a place stands twice: the places rose, or they were compared, or they are searched.
   pub search-finds : (seen : List ℕ) → t .number ≡ 0 → t .placed ≡ true → t .words ≡ true → placesBelow (t .places) rs ≡ true → Seen (placesOf rs) t seen
@@ -192,7 +192,7 @@ module _ (s : ParameterSet) (rs : List Record) (t : Tally) where
 -- ---- what its passes presume
 
 -- a pass over a window changes what was found, and nothing more
-each-finds : (s : ParameterSet) (w : ℕ) (rs : List Record) (t : Tally) (map : List ℕ) → (d : Bool) × (eachOf s (2 + w) rs (pass t map) .tally ≡ finding t d)
+each-finds : (s : ParameterSet) (w : ℕ) (rs : List Record) (t : Tally) (map : List ℕ) → (d : Bool) × (eachOf s (3 + w) rs (pass t map) .tally ≡ finding t d)
 unfolding eachOf noteOf
 each-finds s w [] t map = (t .distinct, refl)
 each-finds s w (r ∷ rs) t map = go (eqb (t .number) 0 && t .distinct) refl (each-finds s w rs)
@@ -200,14 +200,14 @@ each-finds s w (r ∷ rs) t map = go (eqb (t .number) 0 && t .distinct) refl (ea
     n : Noting
     n = note (w * window) (r .place) map
 
-    go : (b : Bool) → (eqb (t .number) 0 && t .distinct) ≡ b → ((t : Tally) (map : List ℕ) → (d : Bool) × (eachOf s (2 + w) rs (pass t map) .tally ≡ finding t d))
-        → (d : Bool) × (eachOf s (2 + w) rs (stepOf s (2 + w) r (pass t map)) .tally ≡ finding t d)
+    go : (b : Bool) → (eqb (t .number) 0 && t .distinct) ≡ b → ((t : Tally) (map : List ℕ) → (d : Bool) × (eachOf s (3 + w) rs (pass t map) .tally ≡ finding t d))
+        → (d : Bool) × (eachOf s (3 + w) rs (stepOf s (3 + w) r (pass t map)) .tally ≡ finding t d)
     go true e ih =
         let rest = ih (finding t (not (n .again))) (n .map) in
-        (rest .0, ap (λ (u : Pass). eachOf s (2 + w) rs u .tally) (step-notes s w r (pass t map) ∙ ap (λ (b : Bool). cond b (found t n) (pass t map)) e) ∙ rest .1)
+        (rest .0, ap (λ (u : Pass). eachOf s (3 + w) rs u .tally) (step-notes s w r (pass t map) ∙ ap (λ (b : Bool). cond b (found t n) (pass t map)) e) ∙ rest .1)
     go false e ih =
         let rest = ih t map in
-        (rest .0, ap (λ (u : Pass). eachOf s (2 + w) rs u .tally) (step-notes s w r (pass t map) ∙ ap (λ (b : Bool). cond b (found t n) (pass t map)) e) ∙ rest .1)
+        (rest .0, ap (λ (u : Pass). eachOf s (3 + w) rs u .tally) (step-notes s w r (pass t map) ∙ ap (λ (b : Bool). cond b (found t n) (pass t map)) e) ∙ rest .1)
 
 windows-find-only : (s : ParameterSet) (rs : List Record) (n : ℕ) (t : Tally) → (d : Bool) × (windowsOf s rs n t ≡ finding t d)
 unfolding windowsOf
@@ -219,7 +219,7 @@ windows-find-only s rs (suc n) t =
 
 pub search-only : (s : ParameterSet) (rs : List Record) (t : Tally) → (d : Bool) × (searchOf s rs t ≡ finding t d)
 unfolding searchOf
-search-only s rs t = windows-find-only s rs (searchEnd t - 2) t
+search-only s rs t = windows-find-only s rs (searchEnd t - 3) t
 
 wanted-unrefused : (t : Tally) → wanted t ≡ true → t .number ≡ 0
 unfolding wanted isClear
@@ -227,27 +227,27 @@ wanted-unrefused t e = eqb-true (t .number) 0 (left-true (eqb (t .number) 0) (t 
 
 -- in the course of a search that ends with the phase `end`
 pub record Reached (s : ParameterSet) (rs : List Record) (t₀ : Tally) (phase : ℕ) (t : Tally) : Type 0 where
-  pub begun : 2 ≤ phase
+  pub begun : 3 ≤ phase
   pub inside : phase ≤ searchEnd t₀
-  pub is : t ≡ windowsOf s rs (phase - 2) t₀
+  pub is : t ≡ windowsOf s rs (phase - 3) t₀
 
 module _ (s : ParameterSet) (rs : List Record) (t₀ : Tally) where
-  end-low : (t₀ .number ≡ 0 → t₀ .places ≤ 2 ^ 32) → (2 ≤ searchEnd t₀) × (searchEnd t₀ ≤ 4098)
+  end-low : (t₀ .number ≡ 0 → t₀ .places ≤ 2 ^ 32) → (3 ≤ searchEnd t₀) × (searchEnd t₀ ≤ 4099)
   unfolding searchEnd
   end-low h = go (wanted t₀) refl
     where
-      go : (b : Bool) → wanted t₀ ≡ b → (2 ≤ cond b (2 + windowsFor (t₀ .places)) 2) × (cond b (2 + windowsFor (t₀ .places)) 2 ≤ 4098)
+      go : (b : Bool) → wanted t₀ ≡ b → (3 ≤ cond b (3 + windowsFor (t₀ .places)) 3) × (cond b (3 + windowsFor (t₀ .places)) 3 ≤ 4099)
       go true e = (omega arith, omega (arith, h (wanted-unrefused t₀ e)))
       go false e = (omega arith, omega arith)
 
-  module _ (n : ℕ) (G : Going s 2 zeros t₀ n) where
-    ends : (2 ≤ searchEnd t₀) × (searchEnd t₀ ≤ 4098)
+  module _ (n : ℕ) (G : Going s 3 zeros t₀ n) where
+    ends : (3 ≤ searchEnd t₀) × (searchEnd t₀ ≤ 4099)
     ends = end-low (λ z. subst (λ (m : ℕ). m ≤ 2 ^ 32) (sym (G .places z)) (tree-of.valid-numbers s (G .accepted z) .few))
 
-    pub search-low : searchEnd t₀ ≤ 4098
+    pub search-low : searchEnd t₀ ≤ 4099
     search-low = ends .1
 
-    pub search-begins : Reached s rs t₀ 2 t₀
+    pub search-begins : Reached s rs t₀ 3 t₀
     unfolding windowsOf
     search-begins = record { begun = omega arith; inside = ends .0; is = refl }
 
@@ -256,32 +256,33 @@ module _ (s : ParameterSet) (rs : List Record) (t₀ : Tally) where
       pub search-asks : phase < searchEnd t₀ → Going s phase zeros t n
       unfolding roomOf
       search-asks l =
-          let f = windows-find-only s rs (phase - 2) t₀ in
+          let f = windows-find-only s rs (phase - 3) t₀ in
           subst (λ (u : Tally). Going s phase zeros u n) (sym (reached .is ∙ f .1))
           (record {
             accepted = G .accepted;
-            whole = λ z. G .whole z ∙ sym (ap₂ (λ (a b : Bool). cond a keepable (cond b (storeWords s) mapWords)) (ne-eqb phase 0 (λ e. absurd (omega (arith, reached .begun)))) (ne-eqb phase 1 (λ e. absurd (omega (arith, reached .begun)))));
+            whole = λ z. G .whole z ∙ sym (ap₂ (λ (a b : Bool). cond a keepable (cond b (storeWords s) mapWords)) (ne-eqb phase 0 (λ e. absurd (omega (arith, reached .begun)))) (le-ltb phase 3 (reached .begun)));
             places = G .places;
             keeps = λ z. absurd (omega (arith, z, reached .begun));
             counts = G .counts;
+            rank = λ z. absurd (omega (arith, z, reached .begun));
             low = omega (arith, l, ends .1);
           })
 
       pub search-next : phase < searchEnd t₀ → (t′ : Tally) → t′ ≡ eachOf s phase rs (pass t zeros) .tally → Reached s rs t₀ (phase + 1) t′
       unfolding windowsOf
       search-next l t′ e =
-          let w : phase + 1 - 2 ≡ suc (phase - 2) = omega (arith, reached .begun) in
-          let p : phase ≡ 2 + (phase - 2) = omega (arith, reached .begun) in
+          let w : phase + 1 - 3 ≡ suc (phase - 3) = omega (arith, reached .begun) in
+          let p : phase ≡ 3 + (phase - 3) = omega (arith, reached .begun) in
           record {
             begun = omega (arith, reached .begun);
             inside = omega (arith, l);
             is =
                 e ∙ ap (λ (u : Tally). eachOf s phase rs (pass u zeros) .tally) (reached .is)
-                ∙ ap (λ (m : ℕ). eachOf s m rs (pass (windowsOf s rs (phase - 2) t₀) zeros) .tally) p ∙ ap (λ (m : ℕ). windowsOf s rs m t₀) (sym w);
+                ∙ ap (λ (m : ℕ). eachOf s m rs (pass (windowsOf s rs (phase - 3) t₀) zeros) .tally) p ∙ ap (λ (m : ℕ). windowsOf s rs m t₀) (sym w);
           }
 
       pub search-ends : searchEnd t₀ ≤ phase → t ≡ searchOf s rs t₀
       unfolding searchOf
       search-ends l =
           let e : phase ≡ searchEnd t₀ = omega (arith, l, reached .inside) in
-          reached .is ∙ ap (λ (m : ℕ). windowsOf s rs (m - 2) t₀) e
+          reached .is ∙ ap (λ (m : ℕ). windowsOf s rs (m - 3) t₀) e

@@ -34,11 +34,14 @@ pub record Tested (s : ParameterSet) (rs : List Record) (t t′ : Tally) : Type 
   pub placed : t′ .placed ≡ (t .placed && placesBelow (t .places) rs)
   pub words : t′ .words ≡ (t .words && allWords (primeOf s) (usedWords (s .«node_size») rs))
   pub few : t′ .few ≡ t .few
+  pub levels : t′ .levels ≡ t .levels
+  pub before : t′ .before ≡ t .before
+  pub under : t′ .under ≡ t .under
   pub made : t′ .made ≡ t .made
 
 pub tested-all : (s : ParameterSet) (rs : List Record) (t : Tally) (seen : List ℕ) → t .number ≡ 0 → Tested s rs t (eachOf s 0 rs (pass t seen) .tally)
 unfolding eachOf placesBelow usedWords allWords
-tested-all s [] t seen e = record { number = e; places = refl; placed = sym (and-true (t .placed)); words = sym (and-true (t .words)); few = refl; made = refl }
+tested-all s [] t seen e = record { number = e; places = refl; placed = sym (and-true (t .placed)); words = sym (and-true (t .words)); few = refl; levels = refl; before = refl; under = refl; made = refl }
 tested-all s (r ∷ rs) t seen e =
     subst (λ (u : Pass). Tested s (r ∷ rs) t (eachOf s 0 rs u .tally)) (sym (test-is s r t seen e)) (more (tested-all s rs (tested s r t seen .tally) (tested s r t seen .buffer) refl))
   where
@@ -55,6 +58,9 @@ tested-all s (r ∷ rs) t seen e =
           ∙ and-assoc (t .words) (allWords (primeOf s) (leafOf (s .«node_size») r)) (allWords (primeOf s) (usedWords (s .«node_size») rs))
           ∙ ap (λ (b : Bool). t .words && b) (sym (words-both (primeOf s) (leafOf (s .«node_size») r) (usedWords (s .«node_size») rs)));
       few = rest .few;
+      levels = rest .levels;
+      before = rest .before;
+      under = rest .under;
       made = rest .made;
     }
 

@@ -37,6 +37,7 @@ module _ (s : ParameterSet) (phase : ℕ) (rs : List Record) (t₀ : Tally) (xs 
       places = reached .going .places;
       keeps = λ z f. omega (arith, l, reached .going .keeps z f);
       counts = omega (arith, l, reached .going .counts);
+      rank = reached .going .rank;
       low = reached .going .low;
     }
 

@@ -1,4 +1,5 @@
 // Replacement records, and the passes that a push makes over them. Every function presumes what the push has tested before.
+pub mod levels;
 pub mod listing;
 pub mod passes;
 pub mod record;

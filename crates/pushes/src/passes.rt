@@ -4,7 +4,8 @@ ghost use Prim.Native.Nat.{_/_};
 ghost use lib.ListN.{length, replicate};
 ghost use Rattle.repeats.specs.Maps.{mapWords};
 ghost use Rattle.pushes.specs.Listed.{listed};
-ghost use Rattle.pushes.specs.Passes.{pass, Going, eachOf, searchOf};
+ghost use Rattle.pushes.specs.Passes.{pass, Going, Rising, eachOf, searchOf, levelsOf};
+use crate::levels;
 use crate::listing;
 use crate::record::Record;
 use crate::steps;
@@ -14,9 +15,11 @@ use parameters::ParameterSet;
 // The phases: what a pass does with each record. From the last on, it searches a window of places each.
 pub const TEST: u64 = 0;
 
-pub const WRITE: u64 = 1;
+pub const MARK: u64 = 1;
 
-pub const SEARCH: u64 = 2;
+pub const LEVEL: u64 = 2;
+
+pub const SEARCH: u64 = 3;
 
 // Over a slice of records, in order. The buffer is for the places that are kept, the store or a map of places.
 pub fn each(
@@ -41,7 +44,7 @@ pub fn each(
 
 // The search for a place that stands twice, where the tests have left it open: a pass for each window of places, with a map of its own.
 pub fn search(set: ParameterSet, records: &[Record], tally: Tally) -> Tally
-    requires { ⌜ Going set 2 (replicate mapWords 0) tally (length (now records)) ⌝ }
+    requires { ⌜ Going set 3 (replicate mapWords 0) tally (length (now records)) ⌝ }
     ensures { λ r. ⌜ r ≡ searchOf set (now (records .entry)) tally ⌝ }
 {
     let end = steps::search_end(tally);
@@ -51,6 +54,23 @@ pub fn search(set: ParameterSet, records: &[Record], tally: Tally) -> Tally
         let mut map = [0u64; 16384];
         sum = each(set, &mut map, records, phase, sum);
         phase += 1;
+    }
+    sum
+}
+
+// Level by level, the marked nodes over the records' places: of as many levels as the tally says.
+pub fn rise(set: ParameterSet, store: &mut [u64], records: &[Record], tally: Tally) -> Tally
+    requires { ⌜ Rising set (now store) tally (length (now records)) ⌝ }
+    ensures { λ r. ⌜ (r ≡ levelsOf set (now (records .entry)) (pass tally (now (store .entry))) .tally)
+        × (now (store .exit) ≡ levelsOf set (now (records .entry)) (pass tally (now (store .entry))) .buffer) ⌝ }
+{
+    let end = levels::by_records(tally);
+    let mut level: u64 = 0;
+    let mut sum = tally;
+    while level < end {
+        let passed = each(set, store, records, LEVEL, sum);
+        sum = levels::next(set, passed);
+        level += 1;
     }
     sum
 }
@@ -81,7 +101,7 @@ pub fn each_listed(
 
 // The search in the records of a list of numbers.
 pub fn search_listed(set: ParameterSet, numbers: &[u64], tally: Tally) -> Tally
-    requires { ⌜ Going set 2 (replicate mapWords 0) tally (length (now numbers) / 7) ⌝ }
+    requires { ⌜ Going set 3 (replicate mapWords 0) tally (length (now numbers) / 7) ⌝ }
     ensures { λ r. ⌜ r ≡ searchOf set (listed (now (numbers .entry))) tally ⌝ }
 {
     let end = steps::search_end(tally);
@@ -92,6 +112,24 @@ pub fn search_listed(set: ParameterSet, numbers: &[u64], tally: Tally) -> Tally
         let next = each_listed(set, &mut map, numbers, phase, sum);
         sum = next;
         phase += 1;
+    }
+    sum
+}
+
+// Level by level over the records of a list of numbers.
+pub fn rise_listed(set: ParameterSet, store: &mut [u64], numbers: &[u64], tally: Tally) -> Tally
+    requires { ⌜ Rising set (now store) tally (length (now numbers) / 7) ⌝ }
+    ensures { λ r. ⌜ (r ≡ levelsOf set (listed (now (numbers .entry))) (pass tally (now (store .entry))) .tally)
+        × (now (store .exit) ≡ levelsOf set (listed (now (numbers .entry))) (pass tally (now (store .entry))) .buffer) ⌝ }
+{
+    let end = levels::by_records(tally);
+    let mut level: u64 = 0;
+    let mut sum = tally;
+    while level < end {
+        let passed = each_listed(set, store, numbers, LEVEL, sum);
+        let next = levels::next(set, passed);
+        sum = next;
+        level += 1;
     }
     sum
 }

@@ -1,19 +1,23 @@
 // What a push does with one record.
 ghost use mathlib.Core.Path.{_≡_};
 ghost use mathlib.Core.Bool.{true, not, _&&_};
-ghost use Prim.Native.Nat.{_+_, _≤_, _<_, _^_};
+ghost use Prim.Native.Nat.{_+_, _/_, _≤_, _<_, _^_};
 ghost use lib.ListN.{length, take};
 ghost use Rattle.modular.specs.Arithmetic.{allWords};
 ghost use Rattle.refusals.specs.Table.{firstRefusal};
 ghost use Rattle.fields.specs.Prime.{prime};
 ghost use Rattle.parameters.specs.ParameterSet.{setRefusals};
-ghost use Rattle.merkle.specs.Replacement.{replaceFrom};
+ghost use Rattle.merkle.specs.Marks.{markChange, rewriteMarked};
+ghost use Rattle.merkle.specs.Replacement.{Change};
 ghost use Rattle.trees.specs.Shapes.{counted};
-ghost use Rattle.trees.specs.SetTrees.{treeOf, leafCount, storeWords};
+ghost use Rattle.trees.specs.SetTrees.{treeOf, dimensionsOf, leafCount, storeWords};
+ghost use Rattle.marks.specs.Marks.{mark, Rank};
 ghost use Rattle.repeats.specs.Maps.{mapWords};
-ghost use Rattle.pushes.specs.Passes.{pass, Going, aboveOf, freshOf, keeping, oneMore, testOf, isClear, mayWrite, writeOf, noteOf, stepOf, searchEnd};
+ghost use Rattle.pushes.specs.Passes.{pass, Going, aboveOf, freshOf, keeping, oneMore, testOf, isClear, mayWrite, markOf, riseOf, noteOf, stepOf, searchEnd};
 use crate::record::Record;
 use crate::tally::Tally;
+use marks::marking;
+use marks::rewriting;
 use parameters::ParameterSet;
 use trees::sets;
 
@@ -94,12 +98,15 @@ fn test_record(set: ParameterSet, seen: &mut [u64], tally: Tally, item: Record) 
         above: above(item.place, tally.places),
         few: tally.few,
         kept: one_more(tally.few, tally.kept),
+        levels: tally.levels,
+        before: tally.before,
+        under: tally.under,
         made: tally.made,
     }
 }
 
 // Whether no refusal up to 12 applies.
-fn is_clear(tally: Tally) -> bool
+pub fn is_clear(tally: Tally) -> bool
     ensures { λ r. ⌜ r ≡ isClear tally ⌝ }
 {
     both(tally.number == 0, both(tally.placed, tally.words))
@@ -112,38 +119,79 @@ fn may_write(tally: Tally, place: u64) -> bool
     both(is_clear(tally), both(tally.distinct, place < tally.places))
 }
 
-// The single replacement of a record: the count that is handed in goes on.
-fn write_record(set: ParameterSet, store: &mut [u64], place: u64, words: [u64; 6], made: u64) -> u64
-    requires { ⌜ (firstRefusal (setRefusals set) ≡ 0) × (length (now store) ≡ storeWords set) × (place < leafCount set) × (made + 32 < 2 ^ 64) ⌝ }
-    ensures { λ r. ⌜ (r ≡ replaceFrom (treeOf set) (set .height) place (take (set .«node_size») words) (counted (now (store .entry)) made) .made)
-        × (now (store .exit) ≡ replaceFrom (treeOf set) (set .height) place (take (set .«node_size») words) (counted (now (store .entry)) made) .store) ⌝ }
+// A record's leaf is written, and the nodes above it are marked.
+fn mark_record(set: ParameterSet, store: &mut [u64], places: u64, place: u64, words: [u64; 6])
+    requires { ⌜ (firstRefusal (setRefusals set) ≡ 0) × (length (now store) ≡ storeWords set) × (places ≡ leafCount set) × (place < leafCount set) ⌝ }
+    ensures { λ r. ⌜ now (store .exit) ≡ markChange (treeOf set) mark (set .height) (record { place = place; leaf = take (set .«node_size») words }) (now (store .entry)) ⌝ }
 {
     let d = sets::dimensions(set);
-    let diagonal = set.diagonal;
-    let constants = set.constants;
     let end = d.node_size;
-    trees::replace_from(
-        d,
-        &diagonal,
-        &constants,
-        store,
-        place as usize,
-        &words[..end],
-        made,
-    )
+    marking::write_leaf(d, store, places as usize, place as usize, &words[..end]);
 }
 
-// The last pass: a record is written where nothing is refused.
-fn write_item(set: ParameterSet, store: &mut [u64], tally: Tally, item: Record) -> Tally
+// The pass after the tests: a record's leaf is written where nothing is refused.
+fn mark_item(set: ParameterSet, store: &mut [u64], tally: Tally, item: Record) -> Tally
     requires { ⌜ Going set 1 (now store) tally 1 ⌝ }
-    ensures { λ r. ⌜ (r ≡ writeOf set item (pass tally (now (store .entry))) .tally)
-        × (now (store .exit) ≡ writeOf set item (pass tally (now (store .entry))) .buffer) ⌝ }
+    ensures { λ r. ⌜ (r ≡ markOf set item (pass tally (now (store .entry))) .tally)
+        × (now (store .exit) ≡ markOf set item (pass tally (now (store .entry))) .buffer) ⌝ }
 {
     if !may_write(tally, item.place) {
         return tally;
     }
     let words = item.words;
-    let made = write_record(set, store, item.place, words, tally.made);
+    mark_record(set, store, tally.places, item.place, words);
+    tally
+}
+
+// The node over a place is rewritten if it is marked, on the level of these numbers: the count that is handed in goes on.
+fn rewrite_record(
+    set: ParameterSet,
+    store: &mut [u64],
+    places: u64,
+    before: usize,
+    under: usize,
+    place: u64,
+    made: u64,
+) -> u64
+    requires { ⌜ (firstRefusal (setRefusals set) ≡ 0) × (length (now store) ≡ storeWords set) × (places ≡ leafCount set) × (Rank (dimensionsOf set) before under)
+        × (place < leafCount set) × (made + 1 < 2 ^ 64) ⌝ }
+    ensures { λ r. ⌜ (r ≡ rewriteMarked (treeOf set) mark places (before + place / under) (counted (now (store .entry)) made) .made)
+        × (now (store .exit) ≡ rewriteMarked (treeOf set) mark places (before + place / under) (counted (now (store .entry)) made) .store) ⌝ }
+{
+    let d = sets::dimensions(set);
+    let diagonal = set.diagonal;
+    let constants = set.constants;
+    rewriting::rewrite_over(
+        d,
+        &diagonal,
+        &constants,
+        store,
+        places as usize,
+        before,
+        under,
+        place as usize,
+        made,
+    )
+}
+
+// A pass over a level: the node over a record's place is rewritten where nothing is refused.
+fn rise_item(set: ParameterSet, store: &mut [u64], tally: Tally, place: u64) -> Tally
+    requires { ⌜ Going set 2 (now store) tally 1 ⌝ }
+    ensures { λ r. ⌜ (r ≡ riseOf set place (pass tally (now (store .entry))) .tally)
+        × (now (store .exit) ≡ riseOf set place (pass tally (now (store .entry))) .buffer) ⌝ }
+{
+    if !may_write(tally, place) {
+        return tally;
+    }
+    let made = rewrite_record(
+        set,
+        store,
+        tally.places,
+        tally.before,
+        tally.under,
+        place,
+        tally.made,
+    );
     Tally {
         number: tally.number,
         places: tally.places,
@@ -154,11 +202,14 @@ fn write_item(set: ParameterSet, store: &mut [u64], tally: Tally, item: Record) 
         above: tally.above,
         few: tally.few,
         kept: tally.kept,
+        levels: tally.levels,
+        before: tally.before,
+        under: tally.under,
         made: made,
     }
 }
 
-// A pass between them: a record's place is noted in the map of a window, until one is found twice.
+// A pass of the search: a record's place is noted in the map of a window, until one is found twice.
 fn note_record(map: &mut [u64], base: u64, tally: Tally, place: u64) -> Tally
     requires { ⌜ (tally .number ≡ 0 → length (now map) ≡ mapWords) ⌝ }
     ensures { λ r. ⌜ (r ≡ noteOf base place (pass tally (now (map .entry))) .tally)
@@ -178,6 +229,9 @@ fn note_record(map: &mut [u64], base: u64, tally: Tally, place: u64) -> Tally
         above: tally.above,
         few: tally.few,
         kept: tally.kept,
+        levels: tally.levels,
+        before: tally.before,
+        under: tally.under,
         made: tally.made,
     }
 }
@@ -192,9 +246,12 @@ pub fn step(set: ParameterSet, buffer: &mut [u64], phase: u64, tally: Tally, ite
         return test_record(set, buffer, tally, item);
     }
     if phase == 1 {
-        return write_item(set, buffer, tally, item);
+        return mark_item(set, buffer, tally, item);
     }
-    note_record(buffer, (phase - 2) * 1048576, tally, item.place)
+    if phase == 2 {
+        return rise_item(set, buffer, tally, item.place);
+    }
+    note_record(buffer, (phase - 3) * 1048576, tally, item.place)
 }
 
 // The phase with which a search ends: after one for each window of places, and at once where nothing is to be searched.
@@ -202,7 +259,7 @@ pub fn search_end(tally: Tally) -> u64
     ensures { λ r. ⌜ r ≡ searchEnd tally ⌝ }
 {
     if !both(is_clear(tally), both(!tally.rising, !tally.few)) {
-        return 2;
+        return 3;
     }
-    2 + tally.places / 1048576 + (tally.places % 1048576 + 1048575) / 1048576
+    3 + tally.places / 1048576 + (tally.places % 1048576 + 1048575) / 1048576
 }

@@ -15,6 +15,10 @@ pub struct Tally {
     // there are so few records that their places are kept and compared; how many are kept so far
     pub few: bool,
     pub kept: usize,
+    // how many levels are made by going over the records; of the next one the rows before its own, and the places under each of its nodes
+    pub levels: u64,
+    pub before: usize,
+    pub under: usize,
     // the compressions made
     pub made: u64,
 }

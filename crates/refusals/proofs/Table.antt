@@ -1,9 +1,9 @@
 -- A refusal that applies is the reply, and one that does not leaves it to those after it.
-use mathlib.Core.Path.{_≡_, refl, sym, ap, _∙_}
+use mathlib.Core.Path.{_≡_, refl, sym, ap, subst, _∙_}
 use mathlib.Core.Logic.{_≢_}
 use mathlib.Core.Bool.{Bool, true, false, cond, not}
 use mathlib.Core.List.{List, [], _∷_, _++_}
-use Prim.Native.Nat.{ℕ, suc, _<_}
+use Prim.Native.Nat.{ℕ, zero, suc, _<_}
 use native.Mathlib.Omega.{arith}
 use Rattle.modular.specs.Arithmetic.{allWords}
 use Rattle.refusals.specs.Table.{Refusal, refusal, notWords, firstRefusal, Reply, refused, done, reply, after}
@@ -104,6 +104,25 @@ reply-done (r ∷ refusals) result (next h N) e = at (r .applies) (reply-done re
         → cond b (refused (r .number)) (reply refusals result) ≡ done result
     at true ih e = absurd (omega arith)
     at false ih e = ih e
+
+abbrev isDone : Reply → Type 0
+isDone (refused n) = ⊥
+isDone (done result) = Unit {0}
+
+abbrev resultOf : Reply → List ℕ
+resultOf (refused n) = []
+resultOf (done result) = result
+
+-- a reply that is a result: nothing was refused
+pub reply-none : (refusals : List Refusal) (result xs : List ℕ) → reply refusals result ≡ done xs → firstRefusal refusals ≡ 0
+reply-none refusals result xs e = go (firstRefusal refusals) refl
+  where
+    go : (n : ℕ) → firstRefusal refusals ≡ n → firstRefusal refusals ≡ 0
+    go zero f = f
+    go (suc n) f = absurd (subst isDone (sym e ∙ reply-refused refusals result (λ z. absurd (omega arith))) tt)
+
+pub reply-result : (refusals : List Refusal) (result xs : List ℕ) → Numbered refusals → reply refusals result ≡ done xs → result ≡ xs
+reply-result refusals result xs N e = ap resultOf (sym (reply-done refusals result N (reply-none refusals result xs e)) ∙ e)
 
 pub numbered-append : {refusals more : List Refusal} → Numbered refusals → Numbered more → Numbered (refusals ++ more)
 numbered-append none M = M

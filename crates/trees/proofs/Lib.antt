@@ -3,8 +3,8 @@ pub mod Shapes
 pub mod SetTrees
 pub mod Lists
 pub mod Counts
-mod Rows
+pub mod Rows
 mod Filling
-mod Ascent
+pub mod Ascent
 mod Siblings
 mod Climb

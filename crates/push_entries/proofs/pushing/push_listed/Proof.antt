@@ -3,7 +3,7 @@ use Prim.Native.Nat.{ℕ}
 use lib.ListN.{length-replicate}
 use borrow.Author.Needs.{needs}
 use Rattle.change_entries.specs.Replacement.{changedReply}
-use Rattle.push_entries.proofs.Listed.{part-is-refused, early-is-refused, test-asks, search-asks, write-asks, whole-is-pushed}
+use Rattle.push_entries.proofs.Listed.{part-is-refused, early-is-refused, test-asks, search-asks, mark-asks, rise-asks, sweep-asks, whole-is-pushed}
 use Rattle.push_entries.proofs.pushing.push_listed.Statement.{statement}
 use Rattle.push_entries.proofs.pushing.push_listed.Tie as tie
 
@@ -40,18 +40,44 @@ each-listed-requires-2 c κs =
     let t = s .before .before in
     let b = t .before .before .before .before in
     let i = b .before .before .before .before .before in
-    write-asks _ _ (i .args .numbers .now) _ (b .begin .ensures) (i .good .1 .1 .0 .1) _ (t .each-listed .ensures .0) _ (s .search-listed .ensures)
+    mark-asks _ _ (i .args .numbers .now) _ (b .begin .ensures) (i .good .1 .1 .0 .1) _ (t .each-listed .ensures .0) _ (s .search-listed .ensures)
+
+rise-listed-requires : tie.Need-rise-listed-requires
+rise-listed-requires c κs =
+    let m = c .before .before .before in
+    let s = m .before .before in
+    let t = s .before .before in
+    let b = t .before .before .before .before in
+    let i = b .before .before .before .before .before in
+    rise-asks _ _ (i .args .numbers .now) _ (b .begin .ensures) (i .good .1 .1 .0 .1) _ (t .each-listed .ensures .0) _ (s .search-listed .ensures)
+    _ _ (m .each-listed2 .ensures) (m .each-listed2 .kept .1 .0)
+
+sweep-requires : tie.Need-sweep-requires
+sweep-requires c κs =
+    let r = c .before .before .before in
+    let m = r .before .before .before .before in
+    let s = m .before .before in
+    let t = s .before .before in
+    let b = t .before .before .before .before in
+    let i = b .before .before .before .before .before in
+    sweep-asks _ _ (i .args .numbers .now) _ (b .begin .ensures) (i .good .1 .1 .0 .1) _ (t .each-listed .ensures .0) _ (s .search-listed .ensures)
+    _ _ (m .each-listed2 .ensures) (m .each-listed2 .kept .1 .0) _ _ (r .rise-listed .ensures) (r .rise-listed .kept .1 .0)
 
 returns-3 : tie.Need-returns-3
 returns-3 c =
     let w = c .before .before .before in
-    let s = w .before .before in
+    let r = w .before .before .before .before in
+    let m = r .before .before .before .before in
+    let s = m .before .before in
     let t = s .before .before in
     let b = t .before .before .before .before in
-    whole-is-pushed _ _ _ _ (b .begin .ensures) (b .before .before .if1 .left) _ _ _ _ (t .each-listed .ensures .0) (s .search-listed .ensures) (w .each-listed2 .ensures) _ (c .finish .ensures)
+    let i = b .before .before .before .before .before in
+    whole-is-pushed _ _ (i .args .numbers .now) _ (b .begin .ensures) (i .good .1 .1 .0 .1) _ (t .each-listed .ensures .0) _ (s .search-listed .ensures)
+    _ _ (m .each-listed2 .ensures) (m .each-listed2 .kept .1 .0) _ _ (r .rise-listed .ensures) (r .rise-listed .kept .1 .0)
+    (b .before .before .if1 .left) _ _ (w .sweep .ensures) _ (c .finish .ensures)
 
 pub push-listed-spec : {M : Type 1} → statement M
 push-listed-spec =
     tie.close
     (tie.spec (λ c κs. search needs) returns (λ c κs. search needs) (λ c. search needs) returns-2 slice-aggregate-each-listed each-listed-requires search-listed-requires
-    each-listed-requires-2 (λ c κs. search needs) (λ c. search needs) returns-3)
+    each-listed-requires-2 rise-listed-requires sweep-requires (λ c κs. search needs) (λ c. search needs) returns-3)

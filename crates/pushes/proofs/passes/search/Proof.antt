@@ -136,7 +136,7 @@ Arg = ParameterSet × (RefT (List Record) × (Tally × Unit {0}))
 -- The records ys are at (b, o), borrowed for κ.
 module _ {M : Type 1} (𝓤 : URA M) (H : Heap 𝓤) (A : Atoms 𝓤) (W : Given 𝓤 H A) (at-mem : Memory → SProp 𝓤) (run : Routine → Fun 𝓤) (κ : Lft) (q : Share)
     (b o : ℕ) (γ : GName) (ys : List Record) (s : ParameterSet) (t₀ : Tally)
-    (room : Room R (length ys)) (is-s : Is P.the-row s (pv s ∷ [])) (is-t₀ : Is Y.the-row t₀ (tv t₀ ∷ [])) (going : Going s 2 zeros t₀ (length ys)) where
+    (room : Room R (length ys)) (is-s : Is P.the-row s (pv s ∷ [])) (is-t₀ : Is Y.the-row t₀ (tv t₀ ∷ [])) (going : Going s 3 zeros t₀ (length ys)) where
   abbrev rs : RefT (List Record)
   rs = record { ptr = (b, o); name = γ; now = ys }
 
@@ -300,10 +300,10 @@ module _ {M : Type 1} (𝓤 : URA M) (H : Heap 𝓤) (A : Atoms 𝓤) (W : Given
               let h : end ≤ a .phase = omega (arith, l) in
               last (a .phase) (a .t) (Nearer a) h (search-ends s ys t₀ (length ys) going (a .phase) (a .t) (a .reached) h) (a .is)
 
-      loops : ent 𝓤 (⋆ 𝓤 H A (At 2 t₀)) (Wp 𝓤 H C Λ En (loop mirs.turn-1) Left)
+      loops : ent 𝓤 (⋆ 𝓤 H A (At 3 t₀)) (Wp 𝓤 H C Λ En (loop mirs.turn-1) Left)
       loops =
           loop-rule 𝓤 H (W .laws) 𝓣 (Before s ys t₀) (before-ends s ys t₀) En mirs.turn-1 Left I turns
-          (record { phase = 2; t = t₀; reached = search-begins s ys t₀ (length ys) going; is = is-t₀ })
+          (record { phase = 3; t = t₀; reached = search-begins s ys t₀ (length ys) going; is = is-t₀ })
 
     abbrev OnEntry : SProp 𝓤
     OnEntry = onEntry 𝓤 H A all.signature (κ, tt) (q, tt) args vals
@@ -344,7 +344,7 @@ module _ {M : Type 1} (𝓤 : URA M) (H : Heap 𝓤) (A : Atoms 𝓤) (W : Given
   all-walks 𝓣 fm known-end known-each = walked 𝓤 H A all.ended stayed (all.clauses 𝓤 H A mem run) (WpFn 𝓤 H (𝓣 .C) (𝓣 .Λ) fn)
       (λ κs. (LL.vals P.the-type P′.the-laws, (slice-vals, (LL.vals Y.the-type Y′.the-laws, tt))))
       (λ κs. (LL.tells P.the-type P′.the-laws, (shr-slice-tells (named 0) (κs .0) R, (LL.tells Y.the-type Y′.the-laws, tt))))
-      (λ κs qs bounds a g are. needs 𝓤 (Going (a .0) 2 zeros (a .1 .1 .0) (length (now (a .1 .0)))) _ (λ going.
+      (λ κs qs bounds a g are. needs 𝓤 (Going (a .0) 3 zeros (a .1 .1 .0) (length (now (a .1 .0)))) _ (λ going.
       walk 𝓤 H A W mem run (κs .0) (qs .0) (a .1 .0 .ptr .0) (a .1 .0 .ptr .1) (a .1 .0 .name) (a .1 .0 .now) (a .0) (a .1 .1 .0)
       (are .1 .0 .0 .1) (are .0) (are .1 .1 .0) going 𝓣 fm known-end known-each
       (LL.lawful P.the-type P′.the-laws 𝓤 H A W .typed (a .0) _ (are .0) .0) (LL.lawful Y.the-type Y′.the-laws 𝓤 H A W .typed (a .1 .1 .0) _ (are .1 .1 .0) .0)))

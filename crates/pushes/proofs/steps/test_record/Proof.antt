@@ -51,6 +51,9 @@ returns-2 c =
         above = c .before .above .ensures j;
         few = t .few;
         kept = c .one-more .ensures j;
+        levels = t .levels;
+        before = t .before;
+        under = t .under;
         made = t .made;
       },
       kept .keep-place .ensures .1,

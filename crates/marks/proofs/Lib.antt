@@ -1,0 +1,2 @@
+-- Laws of marks, and of a level's rows.
+pub mod Marks

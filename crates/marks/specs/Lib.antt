@@ -1,0 +1,2 @@
+-- The mark of a push, and the levels that it goes over.
+pub mod Marks
