@@ -18,7 +18,7 @@ numbers a record, its place and six words, made in one of 1344.
 Each call knows the number that it is to be refused with, 0 for none.
 """
 
-from collections.abc import Callable, Iterator
+from collections.abc import Callable, Iterable, Iterator
 from dataclasses import dataclass, field, replace
 from itertools import combinations, product, zip_longest
 
@@ -86,7 +86,8 @@ class Caller:
 
     def __init__(self, tree: Tree, seed: int):
         self.drawn, self.size = drawn_numbers(seed), tree.case.node_size
-        self.places = (tree.case.width // self.size) ** tree.case.height
+        self.arity, self.height = tree.case.width // self.size, tree.case.height
+        self.places = self.arity**self.height
 
     def seed(self) -> int:
         """A drawn seed, short to write."""
@@ -113,7 +114,17 @@ class Caller:
         places = set(wanted)
         while len(places) < min(count, self.places):
             places.add(self.place())
+        return self.shuffled(places)
+
+    def shuffled(self, places: Iterable[int]) -> list[int]:
+        """The places in a drawn order."""
         return sorted(sorted(places), key=lambda _: next(self.drawn))
+
+    def under(self, level: int) -> list[int]:
+        """The places under a drawn node of a level, or under the root if there is no such level."""
+        size = self.arity ** min(level, self.height)
+        first = self.place() // size * size
+        return [*range(first, first + size)]
 
 
 # Short lists.
@@ -239,6 +250,62 @@ def short_lists() -> Iterator[History]:
             yield history(seeded_tree(t, l, h, 2, h % 2, 40 + i), 100 * i + h, parts)
 
 
+# Places that have nodes above them in common.
+
+
+def neighbours(caller: Caller) -> list[int]:
+    """Two places side by side in a drawn row."""
+    row = caller.under(1)
+    at = next(caller.drawn) % max(len(row) - 1, 1)
+    return row[at : at + 2]
+
+
+def border(caller: Caller) -> list[int]:
+    """Two places side by side, under different nodes up to the root: the first place under the
+    last node below the root, and the one before it."""
+    first = caller.places - caller.places // caller.arity
+    return [first, first - 1] if caller.height else [0]
+
+
+def ends(caller: Caller) -> list[int]:
+    """The last place and the first."""
+    return sorted({0, caller.places - 1}, reverse=True)
+
+
+def subtree(caller: Caller, most: int) -> list[int]:
+    """The places under a drawn node below the root, of the highest level that has at most so many
+    under a node."""
+    levels = range(max(caller.height, 1))
+    return caller.under(max(level for level in levels if caller.arity**level <= most))
+
+
+def shared_nodes(caller: Caller) -> Iterator[Push]:
+    """Neighbours, no place, a whole row and a whole subtree, a place of each row under a node, and
+    drawn places."""
+    yield caller.push(*neighbours(caller)[::-1])
+    yield caller.push(*border(caller))
+    yield caller.push(*ends(caller))
+    yield caller.push()
+    yield caller.push(*caller.shuffled(caller.under(1)))
+    yield caller.push(*caller.shuffled(subtree(caller, 6 * caller.arity)))
+    yield caller.push(*caller.under(2)[1 :: caller.arity])
+    yield caller.push(*caller.spread(5))
+
+
+def one_leaf(caller: Caller) -> Iterator[Push]:
+    """No record and one, in a tree of one place."""
+    yield caller.push()
+    yield caller.push(0)
+
+
+def shared_lists() -> Iterator[History]:
+    """Each width and node size with its largest height, and with height 0."""
+    for i, (t, l) in enumerate(SIZES):
+        for h, part in ((tree_heights(t, l)[-1], shared_nodes), (0, one_leaf)):
+            tree = replace(seeded_tree(t, l, h, 2, i % 2, 50 + i), places=1)
+            yield History(tree, [*part(Caller(tree, 1000 + i))])
+
+
 # Long lists. The library compares the places of up to 128 records with each other, and finds one
 # that is repeated among more by a map; the program has room for the last length.
 
@@ -347,6 +414,7 @@ def long_history(shape: tuple[int, int, int], seed: int, parts: list[Part]) -> H
 def histories() -> Iterator[History]:
     """All of them."""
     yield from short_lists()
+    yield from shared_lists()
     yield from long_lists()
 
 

@@ -236,12 +236,16 @@ def write_node(
     return count + 1
 
 
-def write_path(
-    s: ParameterSet, store: Words, place: int, leaf: Words, count: int
-) -> int:
-    """A leaf written, and every node on the way to the root; the count after them."""
+def write_leaf(s: ParameterSet, store: Words, place: int, leaf: Words) -> None:
+    """A leaf written at its place."""
     start = node_start(s, 0, place)
     store[start : start + s.node_size] = leaf
+
+
+def write_path(s: ParameterSet, store: Words, place: int, leaf: Words) -> int:
+    """A leaf written, and every node on the way to the root; the count of these nodes."""
+    write_leaf(s, store, place, leaf)
+    count = 0
     for level in range(1, s.height + 1):
         count = write_node(s, store, level, place // arity(s) ** level, count)
     return count
@@ -258,7 +262,7 @@ def replace(s: ParameterSet, store: Words, place: int, leaf: Words) -> Answer:
         return ("refused", 11)
     if not all_words(leaf + stored_siblings(s, store, place)):
         return ("refused", 12)
-    return ("count", write_path(s, store, place, leaf, 0))
+    return ("count", write_path(s, store, place, leaf))
 
 
 def record_leaf(s: ParameterSet, record: Record) -> Words:
@@ -270,6 +274,23 @@ def record_leaf(s: ParameterSet, record: Record) -> Words:
 def repeats_place(records: list[Record]) -> bool:
     """Whether two records have the same place, so that there are fewer places (Rules 5.4)."""
     return len({place for place, _ in records}) < len(records)
+
+
+def nodes_above(s: ParameterSet, records: list[Record], level: int) -> set[int]:
+    """The numbers of a level's nodes above the records' places, each once (Rules 5.4)."""
+    return {place // arity(s) ** level for place, _ in records}
+
+
+def write_records(s: ParameterSet, store: Words, records: list[Record]) -> int:
+    """All leaves written, and then, level by level, each node above one of them; the count of
+    these nodes."""
+    for record in records:
+        write_leaf(s, store, record[0], record_leaf(s, record))
+    count = 0
+    for level in range(1, s.height + 1):
+        for index in nodes_above(s, records, level):
+            count = write_node(s, store, level, index, count)
+    return count
 
 
 def push(s: ParameterSet, store: Words, records: list[Record]) -> Answer:
@@ -287,10 +308,7 @@ def push(s: ParameterSet, store: Words, records: list[Record]) -> Answer:
         return ("refused", 12)
     if repeats_place(records):
         return ("refused", 17)
-    count = 0
-    for record in records:
-        count = write_path(s, store, record[0], record_leaf(s, record), count)
-    return ("count", count)
+    return ("count", write_records(s, store, records))
 
 
 # Extraction.
@@ -385,4 +403,5 @@ def book_push(s: ParameterSet, book: list[Words], records: list[Record]) -> Answ
         return ("refused", 17)
     for record in records:
         book[record[0]] = list(record_leaf(s, record))
-    return ("count", s.height * len(records))
+    above = [nodes_above(s, records, level) for level in range(1, s.height + 1)]
+    return ("count", sum(map(len, above)))

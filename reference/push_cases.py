@@ -18,7 +18,7 @@ from collections.abc import Callable, Iterator
 from dataclasses import dataclass, field
 from itertools import combinations, product
 
-from cases import LARGEST, Listed, counted
+from cases import LARGEST, SIZES, Listed, counted
 from field import P
 from history_cases import (
     LENGTHS,
@@ -27,21 +27,27 @@ from history_cases import (
     Caller,
     Pair,
     Push,
+    border,
     edges,
+    ends,
     equal_leaves,
     exchanged,
     falling,
     faults_at_once,
     long_places,
+    neighbours,
     paired,
     pairs,
     repeated_places,
     unread_words,
 )
-from tree_cases import Tree, seeded_tree
+from tree_cases import Tree, seeded_tree, tree_sizes
 
 MOST = 1024
 RECORD_PLACES = RECORD * MOST
+
+# As many as a subtree has at most that every tree is tried with: over 128 (see LENGTHS).
+SOME = 216
 
 # The library's map has a bit for each of so many places.
 WINDOW = 2**20
@@ -80,6 +86,50 @@ def one_place(caller: Caller) -> Iterator[Push]:
     for count in (2, 3, *LENGTHS, 300):
         yield caller.push(*[caller.places - 1] * count, refusal=17)
         yield caller.push(caller.places - 1)
+
+
+def shared_nodes(caller: Caller) -> Iterator[Push]:
+    """Places that have nodes above them in common: neighbours, whole subtrees and parts of them, a
+    place under each node of a level; and drawn ones, first few and then many."""
+    for places in neighbours(caller), border(caller), ends(caller), []:
+        yield caller.push(*places)
+        yield caller.push(*reversed(places))
+    for level in levels(caller, SOME):
+        yield from whole_subtrees(caller, level)
+        yield from broken_subtrees(caller, level)
+        yield caller.push(*one_under_each(caller, caller.height - level))
+    for count in (1, 2, 3, 10, 100, SOME):
+        yield caller.push(*caller.spread(count))
+
+
+def levels(caller: Caller, most: int) -> list[int]:
+    """The levels that have at most so many places under a node."""
+    return [j for j in range(caller.height + 1) if caller.arity**j <= most]
+
+
+def whole_subtrees(caller: Caller, level: int) -> Iterator[Push]:
+    """All places under a node of a level, the first, the last and a drawn one, in each order."""
+    size = caller.arity**level
+    first, last = range(size), range(caller.places - size, caller.places)
+    for order, places in zip(ORDERS, ([*first], [*last], caller.shuffled(caller.under(level)))):
+        yield caller.push(*order(places))
+
+
+def broken_subtrees(caller: Caller, level: int) -> Iterator[Push]:
+    """A subtree but for one place, with the first and the last place of the tree; and as many
+    places on both sides of the border."""
+    under = caller.under(level)
+    gone = under[next(caller.drawn) % len(under)]
+    yield caller.push(*caller.shuffled({*under, *ends(caller)} - {gone}))
+    start = max(border(caller)[0] - len(under) // 2, 0)
+    around = range(start, min(start + len(under), caller.places))
+    yield caller.push(*caller.shuffled(around))
+
+
+def one_under_each(caller: Caller, level: int) -> list[int]:
+    """A drawn place under each node of a level."""
+    size = caller.arity**level
+    return caller.shuffled(n + next(caller.drawn) % size for n in range(0, caller.places, size))
 
 
 # Lists for trees of 512 places or more.
@@ -224,6 +274,14 @@ def many(caller: Caller) -> Iterator[Push]:
         yield from of_each(caller, places, pair, [caller.places - 1])
 
 
+def large_subtrees(caller: Caller) -> Iterator[Push]:
+    """The largest subtrees that there is room for, and a place under each node of the lowest level
+    that has no more nodes."""
+    *_, level = levels(caller, MOST)
+    yield from whole_subtrees(caller, level)
+    yield caller.push(*one_under_each(caller, caller.height - level))
+
+
 # What each tree has.
 
 Part = Callable[[Caller], Iterator[Push]]
@@ -236,7 +294,7 @@ MIDDLE: list[Part] = [
     nearly_rising,
     all_places,
 ]
-LARGE: list[Part] = [wide_lists, apart, in_one_window]
+LARGE: list[Part] = [wide_lists, apart, in_one_window, shared_nodes, large_subtrees]
 
 
 def pushes_on(shape: tuple[int, int, int], seed: int, parts: list[Part]) -> Pushes:
@@ -258,9 +316,18 @@ def spoilt_store(shape: tuple[int, int, int], seed: int, at: int) -> Pushes:
     return Pushes(tree, Listed(tree.store, 0, [(at % tree.store, [P])]), pushes)
 
 
+def sized_trees() -> Iterator[tuple[int, int, int]]:
+    """Each width and node size with the heights 0 to 2, and with the largest of a store of at most
+    2^16 words."""
+    for t, l in SIZES:
+        fit = [h for h in range(16) if tree_sizes(t, l, h)[1] <= 2**16]
+        for h in (0, 1, 2, fit[-1]):
+            yield t, l, h
+
+
 def all_pushes() -> Iterator[Pushes]:
     """Trees of one place, of few, of 512, of less than three times 2^20, of four times and of once;
-    and stores with p in them."""
+    stores with p in them; and every width and node size."""
     for seed, shape in enumerate([(4, 2, 0), (12, 6, 0), (4, 2, 1), (8, 4, 3)]):
         yield pushes_on(shape, seed, SMALL)
     yield pushes_on((8, 1, 3), 4, MIDDLE)
@@ -269,6 +336,8 @@ def all_pushes() -> Iterator[Pushes]:
     yield pushes_on((4, 2, 20), 7, LARGE)
     yield spoilt_store((12, 1, 6), 8, 0)
     yield spoilt_store((4, 2, 20), 9, -1)
+    for seed, shape in enumerate(sized_trees(), 10):
+        yield pushes_on(shape, seed, [shared_nodes])
 
 
 def lines() -> list[str]:

@@ -6,8 +6,9 @@ group, one more for each check that failed, and the totals last.
 
 import random
 import sys
-from collections.abc import Callable, Iterator
-from itertools import combinations, product
+from collections.abc import Callable, Iterable, Iterator
+from itertools import chain, combinations, permutations, product
+from unittest.mock import patch
 
 import cases
 import field
@@ -25,6 +26,7 @@ import tree_vectors
 from field import P
 from parameters import (
     ParameterSet,
+    arity,
     constant_count,
     leaf_count,
     refusal_of_set,
@@ -376,7 +378,7 @@ def vectors_cases() -> Iterator[Check]:
 def fitting(lines: list[str]) -> Check:
     """A program's buffer has 65,536 bytes."""
     size = sum(len(line) + 1 for line in lines)
-    return "bytes of input", size <= 60000, True
+    return "bytes of input", size <= 65536, True
 
 
 def tree_vectors_cases() -> Iterator[Check]:
@@ -508,9 +510,154 @@ def leaf_book() -> Iterator[Check]:
         yield name + " store", store, built(s, merkle.book_leaves(book))
 
 
+# The count of a push, by other ways than the reference's.
+
+
+def walked(s: ParameterSet, places: list[int]) -> int:
+    """How many different nodes are on the ways up from the places, each a level and a number."""
+    nodes = set()
+    for node in places:
+        for level in range(s.height):
+            node //= arity(s)
+            nodes.add((level, node))
+    return len(nodes)
+
+
+def covered(s: ParameterSet, places: list[int]) -> int:
+    """How many of all nodes above the leaves have one of the places under them."""
+    sizes = [arity(s) ** level for level in range(1, s.height + 1)]
+    spans = [range(at, at + size) for size in sizes for at in range(0, leaf_count(s), size)]
+    return sum(any(place in span for place in places) for span in spans)
+
+
+def places_of(call: history_cases.Replace | history_cases.Push) -> list[int]:
+    """The places that a call writes to."""
+    if isinstance(call, history_cases.Replace):
+        return [call.place]
+    return [place for place, _ in call.listed()]
+
+
+def worked_counts() -> Iterator[Check]:
+    """Counts that are worked by hand, level by level from the lowest."""
+    for shape, places, count in [
+        ((4, 2, 0), [], 0),
+        ((4, 2, 0), [0], 0),
+        ((4, 2, 1), [1, 0], 1),
+        ((4, 2, 3), [], 0),
+        ((4, 2, 3), [5], 1 + 1 + 1),
+        ((4, 2, 3), [4, 5], 1 + 1 + 1),
+        ((4, 2, 3), [3, 4], 2 + 2 + 1),
+        ((4, 2, 3), [7, 0], 2 + 2 + 1),
+        ((4, 2, 3), [2, 0, 1], 2 + 1 + 1),
+        ((4, 2, 3), [1, 3, 0, 2], 2 + 1 + 1),
+        ((4, 2, 3), [6, 2, 4, 0], 4 + 2 + 1),
+        ((4, 2, 3), [0, 1, 2, 3, 4, 5, 6, 7], 4 + 2 + 1),
+        ((12, 4, 2), [5, 3, 4], 1 + 1),
+        ((12, 4, 2), [2, 3], 2 + 1),
+        ((12, 4, 2), [8, 1, 4], 3 + 1),
+        ((12, 1, 2), [*range(12, 24)], 1 + 1),
+        ((12, 1, 2), [*range(144)], 12 + 1),
+    ]:
+        s = seeded_set(random.Random(21), *shape, 2, 0)
+        records = [(place, [place] * 6) for place in places]
+        store, name = [0] * merkle.store_length(s), f"{shape}, {places}"
+        yield name, merkle.push(s, store, records), ("count", count)
+        yield name + " of the book", merkle.book_push(s, {}, records), ("count", count)
+        yield name + " otherwise", (walked(s, places), covered(s, places)), (count, count)
+
+
+def push_checks(
+    name: str, s: ParameterSet, store: list[int], records: list[merkle.Record]
+) -> Iterator[Check]:
+    """A push leaves the store that its records leave if they are done singly. Its count is that of
+    the nodes above the places, it makes as many compressions, and the book has it too; it is at
+    most h for each record, and h for one."""
+    after, other = list(store), list(store)
+    with patch.object(merkle, "compression", wraps=merkle.compression) as made:
+        answer = merkle.push(s, after, records)
+    nodes = covered(s, [place for place, _ in records])
+    book = merkle.book_push(s, {}, records)
+    yield name + ", count", (answer, made.call_count, book), (("count", nodes), nodes, answer)
+    most = s.height * len(records)
+    yield name + ", most", answer[1] == most if len(records) < 2 else answer[1] <= most, True
+    singly = [merkle.replace(s, other, place, words[: s.node_size]) for place, words in records]
+    yield name + ", singly", singly, [("count", s.height)] * len(records)
+    yield name + ", store", after, other
+
+
+def seeded_records(rng: random.Random, places: Iterable[int]) -> list[merkle.Record]:
+    """Records for these places."""
+    return [(place, seeded_words(rng, 6)) for place in places]
+
+
+def small_lists() -> Iterator[tuple[tuple[int, int, int], Iterable[tuple[int, ...]]]]:
+    """For some small trees: all lists of different places, all of up to three, and all sets."""
+    yield (4, 2, 2), chain(*(permutations(range(4), count) for count in range(5)))
+    yield (8, 4, 3), chain(*(permutations(range(8), count) for count in range(4)))
+    for shape in ((4, 2, 3), (8, 1, 1), (12, 4, 2)):
+        places = (shape[0] // shape[1]) ** shape[2]
+        yield shape, chain(*(combinations(range(places), count) for count in range(places + 1)))
+
+
+def small_pushes() -> Iterator[Check]:
+    """All of these lists on stores of drawn words, which are not built."""
+    rng = random.Random(22)
+    for shape, lists in small_lists():
+        s = seeded_set(rng, *shape, 2, 0)
+        for places in lists:
+            store = seeded_words(rng, merkle.store_length(s))
+            yield from push_checks(f"{shape}, {places}", s, store, seeded_records(rng, places))
+
+
+def shared_places(rng: random.Random, k: int, h: int) -> Iterator[set[int]]:
+    """Places that have nodes above them in common: the first and the last; neighbours in a row; all
+    under a node of each level, all of these but one, the neighbours where a node begins, and one
+    place under each node; and drawn ones, none among them."""
+    places = range(k**h)
+    yield {0, places[-1]}
+    if h > 0:
+        first = rng.choice(places[::k]) + rng.randrange(k - 1)
+        yield {first, first + 1}
+    for level in range(h + 1):
+        size = k**level
+        starts = places[::size]
+        first = rng.choice(starts)
+        under = places[first : first + size]
+        yield {*under}
+        yield {*under} - {rng.choice(under)}
+        yield {first, max(first - 1, 0)}
+        yield {starts[-1], max(starts[-1] - 1, 0)}
+        yield {start + rng.randrange(size) for start in starts}
+    for count in (0, 1, 2, 5, 20, 100):
+        yield {*rng.sample(places, min(count, len(places)))}
+
+
+def seeded_stores(rng: random.Random, s: ParameterSet) -> list[list[int]]:
+    """Words as a store: those that are built of drawn leaves, these with others among them, and
+    drawn ones."""
+    store = built(s, seeded_words(rng, merkle.leaves_length(s)))
+    damaged = list(store)
+    for at in rng.sample(range(len(store)), len(store) // 4 + 1):
+        damaged[at] = rng.randrange(P)
+    return [store, damaged, seeded_words(rng, len(store))]
+
+
+def shared_pushes() -> Iterator[Check]:
+    """Such lists in a drawn order, at every width and node size, on these stores by turns."""
+    rng = random.Random(23)
+    for t, l in cases.SIZES:
+        for h in tree_cases.tree_heights(t, l):
+            s = seeded_set(rng, t, l, h, 2, h % 2)
+            stores = seeded_stores(rng, s)
+            for i, places in enumerate(shared_places(rng, arity(s), h)):
+                records = seeded_records(rng, rng.sample(sorted(places), len(places)))
+                name = f"t={t}, l={l}, h={h}, list {i}"
+                yield from push_checks(name, s, stores[i % 3], records)
+
+
 def histories() -> Iterator[Check]:
-    """The cases of history_vectors: the refusals, the book's answers, the store at the end; and that
-    all is as it would be without the calls that are refused. All of the input fits."""
+    """The cases of history_vectors: the refusals, the counts, the book's answers and the store at
+    the end; all is as it would be without the calls that are refused. All of the input fits."""
     for n, one in enumerate(history_cases.histories()):
         s, leaves, (_, store) = history_vectors.begun(one)
         book, other = merkle.open_book(s, leaves), list(store)
@@ -522,6 +669,7 @@ def histories() -> Iterator[Check]:
             if call.refusal:
                 yield f"{n}, call {i} keeps", store, before
             else:
+                yield f"{n}, count of call {i}", number, covered(s, places_of(call))
                 answer = history_vectors.called(s, call, other)
                 yield f"{n}, call {i}, none refused", answer, (kind, number)
         yield f"{n}, store", store, built(s, merkle.book_leaves(book))
@@ -530,8 +678,9 @@ def histories() -> Iterator[Check]:
 
 
 def pushes() -> Iterator[Check]:
-    """The cases of push_vectors: the refusals, of a push where the store is small or spoilt, and else
-    the book's. In a small tree a store that is kept whole becomes the same, and keeps the same."""
+    """The cases of push_vectors: the refusals and the counts, of a push where the store is small or
+    spoilt, and else the book's. In a small tree a store that is kept whole becomes the same, and
+    keeps the same."""
     for n, one in enumerate(push_cases.all_pushes()):
         s, sparse = one.tree.case.handed(), push_vectors.begun(one)
         small, spoilt = one.tree.store <= 1024, one.written.runs != []
@@ -540,7 +689,7 @@ def pushes() -> Iterator[Check]:
             records = push.listed(push_cases.RECORD_PLACES)
             wanted = ("refused", push.refusal)
             if push.refusal == 0:
-                wanted = ("count", s.height * len(records))
+                wanted = ("count", walked(s, [place for place, _ in records]))
             if small or spoilt:
                 yield f"{n}, push {i}", merkle.push(s, sparse, records), wanted
             if not spoilt:
@@ -648,7 +797,7 @@ def repeated_places() -> Iterator[Check]:
     for count in range(5):
         for places in product(range(4), repeat=count):
             twice = any(a == b for a, b in combinations(places, 2))
-            wanted = ("refused", 17) if twice else ("count", 2 * count)
+            wanted = ("refused", 17) if twice else ("count", covered(s, places))
             records = [(place, leaf) for place in places]
             after, pages = list(store), [list(page) for page in book]
             yield f"push to {places}", merkle.push(s, after, records), wanted
@@ -739,6 +888,9 @@ GROUPS = [
     ("sizes", sizes),
     ("trees", trees),
     ("leaf book", leaf_book),
+    ("worked: counts", worked_counts),
+    ("pushes: small lists", small_pushes),
+    ("pushes: shared nodes", shared_pushes),
     ("histories", histories),
     ("pushes", pushes),
     ("tree refusals", tree_refusals),
