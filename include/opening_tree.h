@@ -170,13 +170,16 @@ typedef struct opening_tree_record {
 } opening_tree_record;
 
 /* opening_tree_push, below, of records that are handed in as numbers, seven for each: its place, then its words. The count is that of the
-   numbers. Writes and refuses as that does, with 17 too where a place stands twice; 10 also where the count is no multiple of seven. */
+   numbers. Writes the same, *made among it, and refuses as that does, with 17 too where a place stands twice; 10 also where the count is no
+   multiple of seven. */
 uint8_t opening_tree_push_numbers(OPENING_TREE_SET, uint64_t *store, size_t store_count, const uint64_t *numbers,
                                   size_t numbers_count, uint64_t *made);
 
-/* Replacements in order, all or none; the count is that of the records. Writes for each record its leaf and the h nodes above it to the
-   store, and the number of all compressions, h for each record, to *made. A list that has a place twice is refused, with equal leaves too,
-   and nothing is written; equal leaves at different places are taken. Refusals, in this order: 1 to 9, 10 (store; over 2^32 records),
+/* The replacements that records say, all or none; the count is that of the records. Writes to the store each record's leaf, and each node
+   that is above one or more of them, once; the store is then the one that opening_tree_replace leaves, called for each record in order.
+   Writes to *made the number of compressions, which is that of the different nodes above the places, on levels 1 to h together: at most h
+   for each record, h for one record, and 0 for none or where h is 0. A list that has a place twice is refused, with equal leaves too, and
+   nothing is written; equal leaves at different places are taken. Refusals, in this order: 1 to 9, 10 (store; over 2^32 records),
    11 (the place of any record is not below k^h), 12 (the leaf of any record, and the whole store), 17 (two records have the same place).
    This one function is C, over the proved one above. */
 static inline uint8_t opening_tree_push(OPENING_TREE_SET, uint64_t *store, size_t store_count, const opening_tree_record *records,

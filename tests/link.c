@@ -193,12 +193,13 @@ static void records(void) {
     expect("more than fit", opening_tree_push(T, store, 6, two, wraps, &made) == 10 && made == 99 && store[0] == 0);
     expect("the most", opening_tree_push(T, store, 6, two, SIZE_MAX, &made) == 10 && made == 99 && store[0] == 0);
     expect("a set that is refused", opening_tree_push(4, 2, 1, 2, 0, singular, 4, constants, 8, store, 6, two, SIZE_MAX, &made) == 9);
-    expect("two records", opening_tree_push(T, store, 6, two, 2, &made) == 0 && made == 2 && same(store, built, 6));
+    expect("two records", opening_tree_push(T, store, 6, two, 2, &made) == 0 && made == 1 && same(store, built, 6));
     memset(store, 0, sizeof store);
     expect("the first", opening_tree_push(T, store, 6, two, 1, &made) == 0 && made == 1 && !same(store, built, 6));
 }
 
-/* Seven records for eight places, in no order and with equal leaves among them: the store is that of the leaves that they leave. */
+/* Seven records for eight places, in no order and with equal leaves among them: the store is that of the leaves that they leave, and all
+   4 + 2 + 1 nodes above the leaves are written. */
 static void seven_records(void) {
     const uint64_t places[7] = {5, 0, 7, 2, 6, 1, 3};
     uint64_t leaves[16] = {0}, store[30] = {0}, built[30] = {0}, made = 99;
@@ -210,7 +211,38 @@ static void seven_records(void) {
         memcpy(leaves + 2 * places[i], record.words, 2 * sizeof *leaves);
     }
     expect("build, of what they leave", opening_tree_build(HIGH, leaves, 16, built, 30) == 0 && !same(store, built, 30));
-    expect("seven records", opening_tree_push(HIGH, store, 30, seven, 7, &made) == 0 && made == 21 && same(store, built, 30));
+    expect("seven records", opening_tree_push(HIGH, store, 30, seven, 7, &made) == 0 && made == 7 && same(store, built, 30));
+}
+
+/* The count of a push for these places in a tree of eight, by both functions, on words that are no built store: they leave what one
+   replacement after another leaves. */
+static int makes(uint64_t wanted, const uint64_t *places, size_t count) {
+    uint64_t store[30], listed[30], singly[30], made = 99, made_listed = 99, made_singly = 99;
+    opening_tree_record list[8];
+    for (uint64_t i = 0; i < 30; i++) store[i] = listed[i] = singly[i] = P - 1 - i * i;
+    for (size_t i = 0; i < count; i++) {
+        const opening_tree_record record = {places[i], {places[i], i, P, P, P, P}};
+        list[i] = record;
+        if (opening_tree_replace(HIGH, singly, 30, places[i], record.words, 2, &made_singly) != 0 || made_singly != 3) return 0;
+    }
+    if (opening_tree_push(HIGH, store, 30, list, count, &made) != 0 || !same(store, singly, 30)) return 0;
+    if (opening_tree_push_numbers(HIGH, listed, 30, &list->place, 7 * count, &made_listed) != 0) return 0;
+    return made == wanted && made_listed == wanted && same(listed, singly, 30);
+}
+
+/* A node above several places is counted once: on level 1, then 2, then 3. */
+static void shared_nodes(void) {
+    static const uint64_t row[2] = {4, 5}, border[2] = {3, 4}, ends[2] = {7, 0}, quarter[3] = {2, 0, 1}, half[4] = {5, 7, 4, 6};
+    static const uint64_t even[4] = {6, 2, 4, 0}, all[8] = {0, 1, 2, 3, 4, 5, 6, 7};
+    expect("no place", makes(0, all, 0));
+    expect("one place", makes(1 + 1 + 1, row, 1));
+    expect("two of a row", makes(1 + 1 + 1, row, 2));
+    expect("two at a border", makes(2 + 2 + 1, border, 2));
+    expect("the last and the first", makes(2 + 2 + 1, ends, 2));
+    expect("a row, and one of the next", makes(2 + 1 + 1, quarter, 3));
+    expect("a whole subtree", makes(2 + 1 + 1, half, 4));
+    expect("one of each row", makes(4 + 2 + 1, even, 4));
+    expect("all places", makes(4 + 2 + 1, all, 8));
 }
 
 /* Refused with this number by both functions, and the store and the count hold what they held. */
@@ -245,10 +277,25 @@ static void repeats_of(uint64_t *store, opening_tree_record *list, size_t count)
     list[count - 1] = last;
 }
 
-/* Lists of few records and of many, whose places rise, jump or fall: refused where one is made another's, and else taken. */
+/* How many of the nodes of HIGHER above its 256 leaves have a place of the list under them. */
+static uint64_t nodes_above(const opening_tree_record *list, size_t count) {
+    uint64_t nodes = 0;
+    for (int level = 1; level <= 8; level++) {
+        for (uint64_t node = 0; node < 256U >> level; node++) {
+            size_t i = 0;
+            while (i < count && list[i].place >> level != node) i++;
+            nodes += i < count;
+        }
+    }
+    return nodes;
+}
+
+/* Lists of few records and of many, whose places rise, jump or fall: refused where one is made another's, and else taken. Where they rise
+   from 0 on, each level has half as many nodes above them as the one below, rounded up; where they fall, they are 0 and the last places. */
 static void repeats(void) {
     static const size_t counts[6] = {2, 3, 128, 129, 130, 256};
     static const uint64_t steps[3] = {1, 37, 255};
+    static const uint64_t worked[3][6] = {{8, 9, 128, 135, 135, 255}, {0}, {15, 15, 135, 135, 141, 255}};
     static uint64_t leaves[512], store[1022], built[1022];
     static opening_tree_record list[256];
     expect("build", opening_tree_build(HIGHER, leaves, 512, store, 1022) == 0);
@@ -261,7 +308,8 @@ static void repeats(void) {
         }
         repeats_of(store, list, count);
         for (size_t j = 0; j < count; j++) memcpy(leaves + 2 * list[j].place, list[j].words, 2 * sizeof *leaves);
-        expect("no place twice", opening_tree_push(HIGHER, store, 1022, list, count, &made) == 0 && made == 8 * count);
+        expect("no place twice", opening_tree_push(HIGHER, store, 1022, list, count, &made) == 0 && made == nodes_above(list, count));
+        if (i / 6 != 1) expect("its count, worked by hand", made == worked[i / 6][i % 6]);
         expect("its leaves", opening_tree_build(HIGHER, leaves, 512, built, 1022) == 0 && same(store, built, 1022));
     }
 }
@@ -415,6 +463,7 @@ static void null_rows(void) {
 /* A tree with h = 0 is its one leaf: its opening has no numbers. */
 static void null_openings(void) {
     const uint64_t leaf[2] = {3, 4}, other[2] = {4, 3};
+    const opening_tree_record one = {0, {5, 6, P, P, P, P}};
     uint64_t store[2] = {9, 9}, part[2] = {9, 9}, a[4] = {9, 9, 9, 9}, b[4] = {9, 9, 9, 9}, made = 99, level = 99;
     expect("h = 0: build", opening_tree_build(LOW, leaf, 2, store, 2) == 0 && same(store, leaf, 2));
     expect("h = 0: open", opening_tree_open(LOW, store, 2, 0, NULL, 0) == 0);
@@ -428,6 +477,8 @@ static void null_openings(void) {
     expect("h = 0: nothing is written", a[0] == 9 && b[3] == 9 && level == 99);
     made = 99;
     expect("h = 0: no numbers", opening_tree_push_numbers(LOW, store, 2, NULL, 0, &made) == 0 && made == 0 && same(store, leaf, 2));
+    made = 99;
+    expect("h = 0: one record", opening_tree_push(LOW, store, 2, &one, 1, &made) == 0 && made == 0 && same(store, one.words, 2));
 }
 
 int main(void) {
@@ -443,6 +494,7 @@ int main(void) {
     changes();
     records();
     seven_records();
+    shared_nodes();
     repeats();
     extraction();
     collisions();

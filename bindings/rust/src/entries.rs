@@ -246,7 +246,7 @@ pub fn read_level(set: &SetNumbers, siblings: &[u64], level: u64, part: &mut [u6
     done(unsafe { call!(opening_tree_read_level, set, siblings.as_ptr(), siblings.len(), level, part.as_mut_ptr(), part.len()) })
 }
 
-/// Puts a leaf at its place in the store, and writes the h nodes above it. Answers the compressions made. Refusals 1 to 11, and 12 for
+/// Puts a leaf at its place in the store, and writes the h nodes above it. Answers the compressions made, h. Refusals 1 to 11, and 12 for
 /// the leaf and the stored siblings that are read.
 pub fn replace(set: &SetNumbers, store: &mut [u64], place: u64, leaf: &[u64]) -> Result<u64, Refusal> {
     // SAFETY: each pointer comes with its slice's length; the slice and the number that are written are borrowed alone.
@@ -255,8 +255,10 @@ pub fn replace(set: &SetNumbers, store: &mut [u64], place: u64, leaf: &[u64]) ->
     })
 }
 
-/// Replacements in order, all or none. Answers the compressions made. Refusals 1 to 11, 12 for the leaves of the records and the whole
-/// store, and 17.
+/// Puts the leaves of records at their places in the store, all or none, and writes the nodes above them, each once. The store is then
+/// the one that the records leave if each is a [`replace`] of its own, in order. Answers the compressions made, which is the number of
+/// different nodes above the places, on all levels together: at most h for each record, fewer where places have a node above them in
+/// common, and h for one record. Refusals 1 to 11, 12 for the leaves of the records and the whole store, and 17.
 ///
 /// A list that has a place twice is refused with 17, whatever the leaves, and nothing is written. Equal leaves may go to different places.
 ///
@@ -269,7 +271,7 @@ pub fn replace(set: &SetNumbers, store: &mut [u64], place: u64, leaf: &[u64]) ->
 /// let [first, second] = [0, 1].map(|place| Record { place, words: [7; 6] });
 /// assert_eq!(entries::push(&set.numbers(), &mut store, &[first, second, first]), Err(Refusal::RepeatedPlace));
 /// assert_eq!(store, [0; 12]);
-/// assert_eq!(entries::push(&set.numbers(), &mut store, &[second, first]), Ok(2));
+/// assert_eq!(entries::push(&set.numbers(), &mut store, &[second, first]), Ok(1)); // the root is above both
 /// assert_eq!(store[..8], [7; 8]);
 /// # Ok::<(), Refusal>(())
 /// ```

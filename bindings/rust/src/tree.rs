@@ -15,7 +15,7 @@ use crate::set::ParameterSet;
 /// let mut tree = Tree::build(&set, &[0; 16])?; // four leaves of four words
 /// assert_eq!(tree.replace(3, &[7, 7, 7, 7])?, 2); // compressions
 /// let [first, second] = [0, 1].map(|place| Record::new(place, &[9, 8, 7, 6]).expect("at most six words"));
-/// assert_eq!(tree.push(&[second, first])?, 4);
+/// assert_eq!(tree.push(&[second, first])?, 2); // the node above both, and the root
 /// assert_eq!(tree.leaves(), [9, 8, 7, 6, 9, 8, 7, 6, 0, 0, 0, 0, 7, 7, 7, 7]);
 /// assert_eq!(tree.root(), set.storeless_root(tree.leaves())?);
 /// assert_eq!(tree.push(&[first, second, first]), Err(Refusal::RepeatedPlace)); // and the tree is as it was
@@ -80,8 +80,9 @@ impl Tree {
         entries::replace(&self.set.numbers(), &mut self.store, place, leaf)
     }
 
-    /// Makes the replacements in order, all or none, and answers the compressions made, h for each. Refusals 10 to 12, and 17 for records
-    /// of which two have the same place.
+    /// Makes the replacements, all or none, and answers the compressions made: the number of different nodes above the places, at most h
+    /// for each record. The tree is the one that the replacements leave if each is made singly. Refusals 10 to 12, and 17 for records of
+    /// which two have the same place.
     pub fn push(&mut self, records: &[Record]) -> Result<u64, Refusal> {
         entries::push(&self.set.numbers(), &mut self.store, records)
     }

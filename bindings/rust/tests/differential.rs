@@ -7,7 +7,7 @@ use model::field::P;
 use model::set::Set;
 use opening_tree::{ParameterSet, Record};
 use support::calls::{numbers, Answer, Call, Entry};
-use support::cases::{call, greatest_height, records, set_for, set_of, SHAPES};
+use support::cases::{call, greatest_height, nodes_above, places_under, records, set_for, set_of, SHAPES};
 use support::collisions::{collision, Collision, Kind};
 use support::damage::{damage, EDGES};
 use support::generator::Generator;
@@ -187,7 +187,8 @@ fn repeated(call: &Call, from: usize, to: usize, tally: &mut Tally) {
     compare(&|list| (list[to], list[from], list[from + 1]) = (beyond, beyond, P), 11);
 }
 
-/// Lists of about 128 records and of more, at places that rise, fall or do neither: done, and refused where two are the same.
+/// Lists of about 128 records and of more, at places that rise, fall or do neither, and of all places under a node: done, and refused
+/// where two are the same.
 fn long_pushes(generator: &mut Generator, tally: &mut Tally) {
     for shape in SHAPES {
         let arity = shape.0 / shape.1;
@@ -201,6 +202,10 @@ fn long_pushes(generator: &mut Generator, tally: &mut Tally) {
             places.reverse();
             long_push(generator, &set, &places, tally);
         }
+        for level in 1..=set.height {
+            let places = places_under(generator, &set, level);
+            long_push(generator, &set, &places, tally);
+        }
     }
 }
 
@@ -208,9 +213,9 @@ fn long_push(generator: &mut Generator, set: &Set, places: &[u64], tally: &mut T
     let buffers = vec![generator.words(set.store_words() as usize), records(generator, set, places)];
     let call = Call { entry: Entry::Push, set: set.clone(), numbers: vec![], buffers, contents: vec![] };
     let count = places.len();
-    assert_eq!(tally.compare(call.clone()), Answer::Number(set.height * count as u64));
+    assert_eq!(tally.compare(call.clone()), Answer::Number(nodes_above(set.arity(), set.height, places)));
     let two = generator.some_below(2, count);
-    for (from, to) in [(0, 1), (0, count - 1), (count / 2, count / 2 + 1), (count - 2, count - 1), (two[0], two[1])] {
+    for (from, to) in [(0, 1), (0, count - 1), (count / 2 - 1, count / 2), (count - 2, count - 1), (two[0], two[1])] {
         repeated(&call, from, to, tally);
     }
 }

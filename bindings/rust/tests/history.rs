@@ -8,7 +8,7 @@ use std::collections::BTreeMap;
 use model::field::is_word;
 use model::set::Set;
 use opening_tree::{NotAccepted, ParameterSet, Record, Refusal, SetNumbers, Tree};
-use support::cases::{set_of, SHAPES};
+use support::cases::{nodes_above, set_of, SHAPES};
 use support::generator::Generator;
 
 const SEED: u64 = 7;
@@ -19,6 +19,7 @@ const CHANGES: usize = 12;
 struct Book {
     leaves: Vec<Vec<u64>>,
     l: usize,
+    arity: u64,
     height: u64,
 }
 
@@ -45,7 +46,7 @@ impl Book {
         for &(place, leaf) in records {
             self.leaves[place as usize] = leaf.to_vec();
         }
-        Ok(self.height * records.len() as u64)
+        Ok(nodes_above(self.arity, self.height, &places))
     }
 }
 
@@ -144,7 +145,8 @@ fn a_tree_is_that_of_its_leaves_after_any_changes() {
             let leaves = generator.words(set.leaf_words());
             let mut tree = Tree::build(&set, &leaves).expect("words");
             let l = set.node_size();
-            let mut book = Book { leaves: leaves.chunks(l).map(<[u64]>::to_vec).collect(), l, height };
+            let leaves = leaves.chunks(l).map(<[u64]>::to_vec).collect();
+            let mut book = Book { leaves, l, arity: width / node_size, height };
             for _ in 0..CHANGES {
                 match change(generator, &mut tree, &mut book) {
                     (records, Ok(_)) => {

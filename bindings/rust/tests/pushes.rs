@@ -1,4 +1,5 @@
-//! Pushes beside the reference: of lists that repeat a place and of lists that don't, in trees of one place and of up to 2^22.
+//! Pushes beside the reference, and beside their records done singly: of lists that repeat a place and of lists that don't, in trees of
+//! one place and of up to 2^22.
 
 mod model;
 mod support;
@@ -10,7 +11,7 @@ use model::set::Set;
 use opening_tree::entries::{self, record_numbers};
 use opening_tree::{ParameterSet, Record, Refusal, Tree};
 use support::calls::numbers;
-use support::cases::{refused_sets, set_of, small, SHAPES};
+use support::cases::{nodes_above, places_under, refused_sets, set_of, small, SHAPES};
 use support::generator::Generator;
 use support::reference::Input;
 
@@ -111,7 +112,7 @@ fn the_reference_has_the_same_answers_and_stores() {
     let mut input = Input::new(&printed("push_cases.py"));
     let lines = printed("push_vectors.py");
     let mut lines = lines.lines();
-    let (mut done, mut refused, mut most_places) = (0, 0, 0);
+    let (mut done, mut fewer, mut refused, mut most_places) = (0, 0, 0, 0);
     for _ in 0..input.number() {
         let set = input.set();
         let mut stores = Stores::new(read_store(&mut input));
@@ -125,7 +126,14 @@ fn the_reference_has_the_same_answers_and_stores() {
             let wanted = Wanted::read(lines.next().expect("a line for each push"));
             stores.push(&set, &list, &wanted);
             match wanted.answer {
-                Ok(_) => done += 1,
+                Ok(made) => {
+                    let places: Vec<u64> = list.iter().step_by(Record::NUMBERS).copied().collect();
+                    assert_eq!(made, nodes_above(set.arity(), set.height, &places), "places {places:?} under {set:?}");
+                    let most = set.height * places.len() as u64;
+                    assert!(made <= most && (places.len() != 1 || made == most));
+                    done += 1;
+                    fewer += u64::from(made < most);
+                }
                 Err(17) => refused += 1,
                 Err(_) => {}
             }
@@ -133,8 +141,9 @@ fn the_reference_has_the_same_answers_and_stores() {
     }
     assert!(input.is_at_its_end());
     assert_eq!(lines.next(), None);
-    println!("{done} pushes done, {refused} that repeat a place, in trees of up to {most_places} places");
-    assert!(done > 150 && refused > 1000 && most_places == 1 << 22);
+    println!("{done} pushes done, {fewer} of them with a node above several places, and {refused} that repeat a place");
+    println!("in trees of up to {most_places} places");
+    assert!(done > 1000 && fewer > 800 && refused > 1000 && most_places == 1 << 22);
 }
 
 /// The number of the refusal of a push, by records and by numbers, after which the store is as it was.
@@ -187,7 +196,9 @@ fn trees_go_on_after_a_refused_push() {
                 let mut list: Vec<Record> =
                     chosen.iter().map(|&place| Record::new(place as u64, &generator.words(l)).expect("six at most")).collect();
                 let mut other = tree.clone();
-                assert_eq!(other.push(&list), Ok(height * count as u64));
+                let listed: Vec<u64> = list.iter().map(|record| record.place).collect();
+                let above = nodes_above(set.arity(), height, &listed);
+                assert_eq!(other.push(&list), Ok(above));
                 let again = Record { place: generator.pick(&list).place, ..generator.pick(&list) };
                 let at = generator.below(count + 1);
                 list.insert(at, again);
@@ -195,9 +206,78 @@ fn trees_go_on_after_a_refused_push() {
                 assert_eq!(tree.push(&list), Err(Refusal::RepeatedPlace));
                 assert_eq!(tree, before);
                 list.remove(at);
-                assert_eq!(tree.push(&list), Ok(height * count as u64));
+                assert_eq!(tree.push(&list), Ok(above));
                 assert_eq!(tree, other);
             }
         }
     }
+}
+
+/// Lists of places: the first and the last; neighbours in a row and where a node ends; all under a node of each level, and all of these but
+/// one, in a drawn order; one under each node of a level; and drawn ones.
+fn lists_of_places(generator: &mut Generator, set: &Set) -> Vec<Vec<u64>> {
+    let (k, places) = (set.arity(), set.places() as u64);
+    let mut lists = vec![vec![], vec![0], vec![places - 1]];
+    if set.height > 0 {
+        lists.extend([vec![places - 1, 0], vec![0, places - 1]]);
+        let row = k * (generator.number() % (places / k));
+        let at = row + generator.number() % (k - 1);
+        lists.extend([vec![at, at + 1], vec![at + 1, at]]);
+    }
+    for level in 0..=set.height {
+        let under = k.pow(level as u32);
+        lists.push(places_under(generator, set, level));
+        lists.push(places_under(generator, set, level)[1..].to_vec());
+        lists.extend((under < places).then(|| vec![places - under, places - under - 1]));
+        let one_under_each: Vec<u64> = (0..places / under).map(|node| node * under + generator.number() % under).collect();
+        lists.push(one_under_each.iter().rev().copied().collect());
+        lists.push(one_under_each);
+    }
+    for count in [2, 3, 10, 50, 128, 129, 200] {
+        let drawn = generator.some_below(count.min(places as usize), places as usize);
+        lists.push(drawn.into_iter().map(|place| place as u64).collect());
+    }
+    lists
+}
+
+/// Pushes leaves to these places, and puts them there singly, each by a replacement that answers h: both leave the same store. Answers what
+/// the push does.
+fn push_beside_singly(generator: &mut Generator, set: &Set, mut store: Vec<u64>, places: &[u64]) -> u64 {
+    let l = set.node_size as usize;
+    let mut record = |&place: &u64| Record::new(place, &generator.words(l)).expect("six at most");
+    let records: Vec<Record> = places.iter().map(&mut record).collect();
+    let mut singly = store.clone();
+    for Record { place, words } in &records {
+        assert_eq!(entries::replace(&numbers(set), &mut singly, *place, &words[..l]), Ok(set.height));
+    }
+    let answer = entries::push(&numbers(set), &mut store, &records);
+    assert!(store == singly, "{} after {places:?} under {set:?}", difference(&store, &singly));
+    answer.expect("different places")
+}
+
+/// On stores that are built and on any words, by turns. The answer is the number of different nodes above the places.
+#[test]
+fn a_push_leaves_what_its_records_leave_singly() {
+    let generator = &mut Generator(SEED + 1);
+    let (mut pushes, mut fewer) = (0, 0);
+    for shape in SHAPES {
+        let arity = shape.0 / shape.1;
+        let greatest = (0..).take_while(|&height| arity.pow(height) <= 256).last().expect("0 is one");
+        for height in 0..=greatest.into() {
+            let set = &set_of(generator, shape, height, 2, 1);
+            for places in lists_of_places(generator, set) {
+                let mut store = generator.words(set.store_words() as usize);
+                if pushes % 2 == 0 {
+                    let leaves = generator.words(set.leaf_words() as usize);
+                    entries::build(&numbers(set), &leaves, &mut store).expect("words");
+                }
+                let made = push_beside_singly(generator, set, store, &places);
+                assert_eq!(made, nodes_above(arity, height, &places), "{places:?} under {set:?}");
+                pushes += 1;
+                fewer += u64::from(made < height * places.len() as u64);
+            }
+        }
+    }
+    println!("{pushes} pushes, {fewer} of them with a node above several places");
+    assert!(pushes > 1000 && fewer > 500);
 }

@@ -206,8 +206,42 @@ fn places_of_a_push() {
     let mut store = [P, 0, 0, 0, 6, 4];
     assert_eq!(entries::push(&T, &mut store, &[first, first]), Err(Refusal::NotAWord));
     assert_eq!(store, [P, 0, 0, 0, 6, 4]);
-    assert_eq!(tree.push(&[second, first]), Ok(2));
+    assert_eq!(tree.push(&[second, first]), Ok(1));
     assert_eq!(tree.leaves(), [0; 4]);
+}
+
+/// How many nodes a push writes above its leaves, level by level from the lowest.
+#[test]
+fn counts_of_a_push() {
+    let taller = |height: u64| SetNumbers { height, ..T };
+    let three = SetNumbers { width: 12, node_size: 4, height: 2, diagonal: &[1; 12], constants: &[0; 24], ..T };
+    let count = |numbers: SetNumbers, places: &[u64]| {
+        let set = set(numbers);
+        let mut tree = Tree::build(&set, &vec![0; set.leaf_words()]).expect("words");
+        let records: Vec<Record> = places.iter().map(|&place| Record { place, words: [place + 1; 6] }).collect();
+        let made = tree.push(&records).expect("different places");
+        let mut other = Tree::build(&set, &vec![0; set.leaf_words()]).expect("words");
+        for Record { place, words } in records {
+            assert_eq!(other.replace(place, &words[..set.node_size()]), Ok(numbers.height));
+        }
+        assert_eq!(tree, other);
+        assert_eq!(tree.root(), set.storeless_root(tree.leaves()).expect("words"));
+        made
+    };
+    assert_eq!(count(taller(0), &[]), 0);
+    assert_eq!(count(taller(0), &[0]), 0);
+    assert_eq!(count(taller(3), &[]), 0);
+    assert_eq!(count(taller(3), &[5]), 1 + 1 + 1);
+    assert_eq!(count(taller(3), &[4, 5]), 1 + 1 + 1);
+    assert_eq!(count(taller(3), &[4, 3]), 2 + 2 + 1);
+    assert_eq!(count(taller(3), &[7, 0]), 2 + 2 + 1);
+    assert_eq!(count(taller(3), &[1, 3, 0, 2]), 2 + 1 + 1);
+    assert_eq!(count(taller(3), &[6, 2, 4, 0]), 4 + 2 + 1);
+    assert_eq!(count(taller(3), &[0, 1, 2, 3, 4, 5, 6, 7]), 4 + 2 + 1);
+    assert_eq!(count(three, &[5, 3, 4]), 1 + 1);
+    assert_eq!(count(three, &[3, 2]), 2 + 1);
+    assert_eq!(count(three, &[8, 1, 4]), 3 + 1);
+    assert_eq!(count(three, &[0, 1, 2, 3, 4, 5, 6, 7, 8]), 3 + 1);
 }
 
 #[test]
@@ -333,10 +367,10 @@ fn every_function_gives_a_known_answer() {
     assert_eq!(store, [1, 0, 0, 0, 6, 4]);
     let mut store = [2, 3, 4, 5, 9, 9];
     let records = [Record { place: 1, words: [0; 6] }, Record { place: 0, words: [1, 0, P, P, P, P] }];
-    assert_eq!(entries::push(&T, &mut store, &records), Ok(2));
+    assert_eq!(entries::push(&T, &mut store, &records), Ok(1));
     assert_eq!(store, [1, 0, 0, 0, 6, 4]);
     let mut store = [2, 3, 4, 5, 9, 9];
-    assert_eq!(entries::push_numbers(&T, &mut store, entries::record_numbers(&records)), Ok(2));
+    assert_eq!(entries::push_numbers(&T, &mut store, entries::record_numbers(&records)), Ok(1));
     assert_eq!(store, [1, 0, 0, 0, 6, 4]);
 
     let (mut first_row, mut second_row) = ([0; 4], [0; 4]);

@@ -171,7 +171,7 @@ pub fn push(set: &Set, store: &mut [u64], records: &[u64]) -> Result<u64, u8> {
     words(store)?;
     let places: HashSet<u64> = records.iter().map(|(place, _)| *place).collect();
     refuse(17, places.len() < records.len())?;
-    Ok(records.iter().map(|(place, leaf)| tree::replace(set, store, *place, leaf)).sum())
+    Ok(tree::push(set, store, &records))
 }
 
 #[allow(clippy::too_many_arguments)]

@@ -1,5 +1,7 @@
 //! Trees of an accepted set and words.
 
+use std::collections::HashSet;
+
 use super::permutation::compress;
 use super::set::Set;
 
@@ -71,17 +73,44 @@ pub fn climb(set: &Set, place: u64, leaf: &[u64], siblings: &[u64]) -> (Vec<Vec<
     (rows, node)
 }
 
+/// Writes a node of a level.
+fn write(set: &Set, store: &mut [u64], level: u64, index: u64, node: &[u64]) {
+    let start = set.level_start(level) as usize + (index * set.node_size) as usize;
+    store[start..start + node.len()].copy_from_slice(node);
+}
+
+/// Writes the compression of a level's row to the level above, where it belongs.
+fn write_above(set: &Set, store: &mut [u64], level: u64, row: u64) {
+    let start = set.level_start(level) as usize + (row * set.width) as usize;
+    let node = compress(set, &store[start..start + set.width as usize]);
+    write(set, store, level + 1, row, &node);
+}
+
 /// Puts a leaf at its place and writes the nodes above it. Answers the compressions made.
 pub fn replace(set: &Set, store: &mut [u64], place: u64, leaf: &[u64]) -> u64 {
-    let l = set.node_size as usize;
-    let start = place as usize * l;
-    store[start..start + l].copy_from_slice(leaf);
+    write(set, store, 0, place, leaf);
     let mut index = place;
     for level in 0..set.height {
-        let (row, _) = row_at(set, store, place, level);
         index /= set.arity();
-        let start = set.level_start(level + 1) as usize + index as usize * l;
-        store[start..start + l].copy_from_slice(&compress(set, &row));
+        write_above(set, store, level, index);
     }
     set.height
+}
+
+/// Puts each leaf at its place, and then writes the nodes above the places, each once: first those of level 1, then those above them,
+/// and so on. Answers how many nodes that are.
+pub fn push(set: &Set, store: &mut [u64], records: &[(u64, &[u64])]) -> u64 {
+    for &(place, leaf) in records {
+        write(set, store, 0, place, leaf);
+    }
+    let mut nodes: HashSet<u64> = records.iter().map(|&(place, _)| place).collect();
+    let mut made = 0;
+    for level in 0..set.height {
+        nodes = nodes.into_iter().map(|node| node / set.arity()).collect();
+        for &node in &nodes {
+            write_above(set, store, level, node);
+            made += 1;
+        }
+    }
+    made
 }

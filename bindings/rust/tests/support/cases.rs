@@ -102,10 +102,33 @@ fn store(generator: &mut Generator, set: &Set) -> Vec<u64> {
     store
 }
 
-/// Different places of the tree, so many or all of them, in any order. At times the last is among them, and at times they rise.
+/// The places under a drawn node of a level that the tree has, in any order.
+pub fn places_under(generator: &mut Generator, set: &Set, level: u64) -> Vec<u64> {
+    let under = set.arity().pow(level as u32) as usize;
+    let first = generator.below(set.places() as usize / under) * under;
+    generator.some_below(under, under).into_iter().map(|place| (first + place) as u64).collect()
+}
+
+/// How many nodes are above some places: on each level those that differ, once they are sorted.
+pub fn nodes_above(arity: u64, height: u64, places: &[u64]) -> u64 {
+    let mut nodes = places.to_vec();
+    nodes.sort();
+    let mut count = 0;
+    for _ in 0..height {
+        nodes.iter_mut().for_each(|node| *node /= arity);
+        nodes.dedup();
+        count += nodes.len() as u64;
+    }
+    count
+}
+
+/// Different places of the tree, so many or all of them, in any order. At times they are side by side, at times the last is among them,
+/// and at times they rise.
 fn places(generator: &mut Generator, set: &Set, count: usize) -> Vec<u64> {
     let all = set.places() as usize;
-    let mut places: Vec<u64> = generator.some_below(count.min(all), all).into_iter().map(|place| place as u64).collect();
+    let count = count.min(all);
+    let (first, among) = if generator.once_in(3) { (generator.below(all - count + 1), count) } else { (0, all) };
+    let mut places: Vec<u64> = generator.some_below(count, among).into_iter().map(|place| (first + place) as u64).collect();
     let last = all as u64 - 1;
     if generator.once_in(8) && !places.is_empty() && !places.contains(&last) {
         places[0] = last;
