@@ -39,11 +39,24 @@ const SIZES: [u32; 2] = [16, 20];
 const FILE_SHAPES: [(usize, usize); 3] = [(12, 6), (12, 1), (8, 4)];
 const AIMED: (usize, usize) = (12, 6);
 const FILE_BYTES: usize = 1 << 20;
-/// The shape at which a push is measured with its test for a place that stands twice; of how many records, or of all leaves where there
-/// are fewer, and in how many rounds. The longest is measured once, at the greater size. A quick run leaves out the last two.
+/// Heights at which every push is tried beside its records done singly; and so it is near the lesser size.
+const SMALL: [usize; 4] = [0, 1, 2, 3];
+/// The shape at which pushes are measured, rising and shuffled, with their test for a place that stands twice; near which size, of how many
+/// records, in how many rounds, and the most that proved/tuned is to be. For those of over so many records the test has no target, and a
+/// quick run leaves them out.
 const PUSHED: (usize, usize) = (12, 6);
-const PUSHES: [(usize, usize); 4] = [(1, 90), (100, 30), (10_000, 6), (100_000, 3)];
-const LONG_PUSH: usize = 1_000_000;
+const PUSHES: [(u32, usize, usize, Option<f64>); 9] = [
+    (16, 1, 90, None),
+    (16, 100, 60, Some(PUSH_TARGET)),
+    (16, 10_000, 30, Some(PUSH_TARGET)),
+    (16, 65_536, 15, Some(PUSH_TARGET)),
+    (20, 1, 90, None),
+    (20, 100, 30, None),
+    (20, 10_000, 9, None),
+    (20, 100_000, 9, Some(PUSH_TARGET)),
+    (20, 1_000_000, 3, None),
+];
+const LONG: usize = 100_000;
 /// What the second picture is of, and its heights.
 const GROWING: (usize, usize) = (12, 6);
 const HEIGHTS: [usize; 7] = [8, 10, 12, 14, 16, 18, 20];
@@ -54,6 +67,7 @@ const PASSES: usize = 3;
 
 /// The most that proved/tuned is to be.
 const STORELESS_TARGET: f64 = 1.10;
+const PUSH_TARGET: f64 = 1.05;
 const FILE_TARGET: f64 = 1.03;
 /// The most that the leaf of a file over its permutations alone is to be.
 const ABSORPTION_TARGET: f64 = 1.08;
@@ -233,11 +247,16 @@ impl Bench {
             });
         }
         if size == 16 {
+            case.assert_pushes(&store, draw);
+            for h in SMALL {
+                let small = Case::<T>::new(l, h, draw);
+                small.assert_pushes(&small.store(), draw);
+            }
             let times = case.storeless_root(self.rounds(15));
             self.add("storeless root", T, Some(l), Some(sizes), times, Some(STORELESS_TARGET));
         }
         if size == 16 && MEASURED.contains(&(T, l)) {
-            let (some, few) = (self.rounds(30), self.rounds(6));
+            let (some, few) = (self.rounds(60), self.rounds(30));
             let mut add = |operation, times, target| self.add(operation, T, Some(l), Some(sizes), times, target);
             add("open", open, None);
             add("verify", verify, None);
@@ -247,15 +266,18 @@ impl Bench {
             add("push, 10,000 records", case.push(few, &store, 10_000, draw), None);
         }
         if (T, l) == PUSHED {
-            self.pushes(&case, &store, draw);
+            self.pushes(&case, size, &store, draw);
         }
     }
 
     /// Pushes of one shape and size, with their test for a place that stands twice.
-    fn pushes<const T: usize>(&mut self, case: &Case<T>, store: &[u64], draw: &mut impl FnMut() -> u64) {
+    fn pushes<const T: usize>(&mut self, case: &Case<T>, size: u32, store: &[u64], draw: &mut impl FnMut() -> u64) {
         let leaves = case.sizes.leaves;
-        for &(records, rounds) in &PUSHES[..PUSHES.len() - usize::from(self.quick)] {
-            let (records, rounds) = (records.min(leaves), self.rounds(rounds));
+        for (near, records, rounds, target) in PUSHES {
+            let aimed = records <= LONG;
+            if near != size || (self.quick && !aimed) {
+                continue;
+            }
             eprintln!("t = {T}, l = {}, {leaves} leaves, pushes of {records}", case.sizes.node);
             if records > 1 {
                 case.assert_repeats_refused(store, records, draw);
@@ -263,33 +285,17 @@ impl Bench {
             // One record is in either order.
             let orders = if records == 1 { &[true][..] } else { &[true, false] };
             for &rising in orders {
-                let times = case.tested_push(rounds, store, (records, rising), false, draw);
+                let times = case.tested_push(self.rounds(rounds), store, (records, rising), draw);
                 self.pushes.push(Pushed {
                     leaves,
                     records,
                     rising,
                     times,
-                    aimed: true,
+                    target,
+                    aimed,
                 });
             }
         }
-    }
-
-    /// The longest push.
-    fn long_push(&mut self, draw: &mut impl FnMut() -> u64) {
-        const T: usize = PUSHED.0;
-        let (l, records) = (PUSHED.1, LONG_PUSH);
-        let case = Case::<T>::new(l, height_near(SIZES[1], T / l), draw);
-        let leaves = case.sizes.leaves;
-        eprintln!("t = {T}, l = {l}, {leaves} leaves, a push of {records}");
-        let times = case.tested_push(1, &case.store(), (records, false), true, draw);
-        self.pushes.push(Pushed {
-            leaves,
-            records,
-            rising: false,
-            times,
-            aimed: false,
-        });
     }
 
     /// One shape at many heights, for the second picture.
@@ -369,11 +375,11 @@ impl Bench {
         report::print_floors(&self.floors);
         println!("\n### The leaf of a file beside its permutations alone\n");
         report::print_absorptions(&self.absorptions);
-        println!(
-            "\n### A push and its test for a place that stands twice, at t = {}, l = {}\n",
-            PUSHED.0, PUSHED.1
-        );
+        let shape = format!("at t = {}, l = {}", PUSHED.0, PUSHED.1);
+        println!("\n### Pushes, {shape}\n");
         report::print_pushes(&self.pushes);
+        println!("\n### The test of a push for a place that stands twice, {shape}\n");
+        report::print_tests(&self.pushes);
         println!("\n### To choose from, at about 2^20 leaves\n");
         report::print_choices(&self.choices);
     }
@@ -388,10 +394,7 @@ fn main() {
     };
     let load = report::load();
     let passes = if quick { 1 } else { PASSES };
-    let mut bench = (1..passes).fold(Bench::measured(quick), |best, _| best.best(Bench::measured(quick)));
-    if !quick {
-        bench.long_push(&mut poseidon2::seeded());
-    }
+    let bench = (1..passes).fold(Bench::measured(quick), |best, _| best.best(Bench::measured(quick)));
     let write = |name: &str, svg: String| std::fs::write(format!("{folder}/{name}"), svg).expect("the folder can be written");
     write("arity.svg", charts::by_arity(&bench.builds, SIZES));
     write("leaves.svg", charts::by_leaves(&bench.growth, GROWING));

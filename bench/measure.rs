@@ -4,7 +4,7 @@ use crate::halves;
 use crate::poseidon2::{Plain, Tuned, Version};
 use crate::proved;
 use crate::repeats;
-use crate::trees::{self, Rounds, Set, Sizes, NOT_A_WORD, RECORD, REPEATED};
+use crate::trees::{self, places, Rounds, Set, Sizes, NOT_A_WORD, RECORD, REPEATED};
 use std::hint::black_box;
 
 /// R_F and R_P.
@@ -52,10 +52,14 @@ impl Times {
 /// The best times of a push and of its test for a place that stands twice, in seconds.
 #[derive(Clone, Copy)]
 pub struct Tested {
+    /// The compressions that the push makes.
+    pub made: u64,
     pub proved: f64,
     pub tuned: f64,
-    /// The tuned version without the test, where it is measured.
-    pub untested: Option<f64>,
+    /// The tuned version without the test.
+    pub untested: f64,
+    /// The proved build of the leaves that the push brings, where it brings all.
+    pub build: Option<f64>,
     /// The proved first pass over the records, without its part of the test and with it.
     pub passes: [f64; 2],
     /// Where a push searches its places.
@@ -93,9 +97,11 @@ impl Tested {
     pub fn best(self, other: Tested) -> Tested {
         let lower = |a: [f64; 2], b: [f64; 2]| [a[0].min(b[0]), a[1].min(b[1])];
         Tested {
+            made: self.made,
             proved: self.proved.min(other.proved),
             tuned: self.tuned.min(other.tuned),
-            untested: self.untested.zip(other.untested).map(|(a, b)| a.min(b)),
+            untested: self.untested.min(other.untested),
+            build: self.build.zip(other.build).map(|(a, b)| a.min(b)),
             passes: lower(self.passes, other.passes),
             search: self.search.zip(other.search).map(|(a, b)| Search {
                 alone: a.alone.min(b.alone),
@@ -158,6 +164,12 @@ impl<'a, F: Copy> Race<'a, F> {
         }
     }
 
+    /// Whether there is another round: of so many, and then while one of the best times got better in the last few.
+    fn goes_on(&self, rounds: usize) -> bool {
+        let few = 2 * self.versions.len();
+        self.rounds < rounds || (self.rounds < self.improved + few && self.rounds < PATIENCE * rounds)
+    }
+
     fn round(&mut self, work: impl Fn(F, usize, &mut [u64])) {
         for (j, buffer) in self.buffers.iter_mut().enumerate() {
             let i = (j + self.rounds) % self.versions.len();
@@ -172,7 +184,7 @@ impl<'a, F: Copy> Race<'a, F> {
     }
 }
 
-/// The best time of each version. Rounds go on while one of them got better in the last few rounds.
+/// The best time of each version.
 fn race<F: Copy, const N: usize>(
     rounds: usize,
     start: &[u64],
@@ -180,7 +192,7 @@ fn race<F: Copy, const N: usize>(
     work: impl Fn(F, usize, &mut [u64]),
 ) -> [f64; N] {
     let mut race = Race::new(start, &versions);
-    while race.rounds < rounds || (race.rounds < race.improved + 2 * N && race.rounds < PATIENCE * rounds) {
+    while race.goes_on(rounds) {
         race.round(&work);
     }
     race.best.try_into().expect("a time for each version")
@@ -222,6 +234,19 @@ fn sums<const T: usize>() -> [Half<T>; 3] {
 
 fn m4_blocks<const T: usize>() -> [Half<T>; 3] {
     [halves::m4_blocks, Tuned::m4_blocks, Plain::m4_blocks]
+}
+
+// The versions of a push.
+fn pushes<const T: usize>() -> [Push; 3] {
+    [proved::push, trees::push::<Tuned, T, true>, trees::push::<Plain, T, true>]
+}
+
+/// Records to push.
+struct Pushable {
+    /// The different nodes above the places.
+    nodes: u64,
+    /// A list for even rounds and one for odd, with other leaves at the same places, so that a push changes something.
+    lists: [Vec<u64>; 2],
 }
 
 /// A set of seeded words, with leaves, and places with new leaves for them.
@@ -474,47 +499,114 @@ impl<const T: usize> Case<T> {
         records
     }
 
-    /// One version's push of such records.
-    fn push_once(&self, version: Push, store: &mut [u64], records: &[u64]) {
+    /// Two lists of such records.
+    fn pushable(&self, count: usize, rising: bool, draw: &mut impl FnMut() -> u64) -> Pushable {
+        let records = self.records(count, rising, draw);
+        let mut others = records.clone();
+        for record in others.chunks_exact_mut(RECORD) {
+            record[1..].fill_with(&mut *draw);
+        }
+        Pushable {
+            nodes: self.nodes_above(&records),
+            lists: [records, others],
+        }
+    }
+
+    /// How many different nodes there are above the places of records.
+    fn nodes_above(&self, records: &[u64]) -> u64 {
+        let (mut under, mut nodes) = (1, 0);
+        for _ in 0..self.sizes.height {
+            under *= self.sizes.arity;
+            let mut is_above = vec![false; self.sizes.leaves / under];
+            places(records).for_each(|place| is_above[place as usize / under] = true);
+            nodes += is_above.iter().filter(|&&is| is).count();
+        }
+        nodes as u64
+    }
+
+    /// The leaves with those of records at their places.
+    fn changed(&self, records: &[u64]) -> Vec<u64> {
+        let (l, mut leaves) = (self.sizes.node, self.leaves.clone());
+        for record in records.chunks_exact(RECORD) {
+            let at = record[0] as usize * l;
+            leaves[at..at + l].copy_from_slice(&record[1..1 + l]);
+        }
+        leaves
+    }
+
+    /// One version's push of a list, with the compressions that it is to make.
+    fn push_once(&self, version: Push, store: &mut [u64], list: &[u64], nodes: u64) {
         let (set, mut made) = (self.set(), 0);
-        assert_eq!(version(black_box(&set), store, records, &mut made), 0);
-        assert_eq!(made, set.height * (records.len() / RECORD) as u64);
+        assert_eq!(version(black_box(&set), store, list, &mut made), 0);
+        assert_eq!(made, nodes);
+    }
+
+    /// Every version's push leaves what its records leave that are done singly, and makes a compression for each node above them.
+    pub fn assert_pushes(&self, store: &[u64], draw: &mut impl FnMut() -> u64) {
+        let (set, l, leaves) = (self.set(), self.sizes.node, self.sizes.leaves);
+        let most = leaves.min(2_000);
+        let counts = [0, 1, 2, leaves / 2, leaves, 20, 100, 1_000];
+        for count in counts.into_iter().filter(|&count| count <= most) {
+            for rising in [false, true] {
+                let pushed = self.pushable(count, rising, draw);
+                let (mut singly, list) = (store.to_vec(), &pushed.lists[0]);
+                for record in list.chunks_exact(RECORD) {
+                    let mut made = 0;
+                    assert_eq!(proved::replace(&set, &mut singly, record[0], &record[1..1 + l], &mut made), 0);
+                    assert_eq!(made, set.height);
+                }
+                for version in pushes::<T>() {
+                    let mut left = store.to_vec();
+                    self.push_once(version, &mut left, list, pushed.nodes);
+                    assert!(left == singly, "a push differs from its records done singly");
+                }
+            }
+        }
     }
 
     /// A push of `count` shuffled records; the time is of the whole push.
     pub fn push(&self, rounds: usize, store: &[u64], count: usize, draw: &mut impl FnMut() -> u64) -> Times {
-        let lists = [(); 2].map(|()| self.records(count, false, draw));
-        let versions: [Push; 3] = [proved::push, trees::push::<Tuned, T, true>, trees::push::<Plain, T, true>];
-        let best = race(rounds, store, versions, |version, round, store| {
-            self.push_once(version, store, &lists[round % 2]);
+        let Pushable { nodes, lists } = self.pushable(count, false, draw);
+        let best = race(rounds, store, pushes::<T>(), |version, round, store| {
+            self.push_once(version, store, &lists[round % 2], nodes);
         });
         Times::of(&best, 1)
     }
 
-    /// A push of `count` records, and in the same rounds the parts that its test for a place that stands twice is made of. Where it is
-    /// `brief`, the tuned version without this test is left out.
+    /// A push of `count` records, and in the same rounds the parts that its test for a place that stands twice is made of. Where the
+    /// records are at all places, also a build of their leaves.
     pub fn tested_push(
         &self,
         rounds: usize,
         store: &[u64],
         (count, rising): (usize, bool),
-        brief: bool,
         draw: &mut impl FnMut() -> u64,
     ) -> Tested {
-        let lists = [(); 2].map(|()| self.records(count, rising, draw));
+        let Pushable { nodes, lists } = self.pushable(count, rising, draw);
         let (set, leaves, list) = (self.set(), self.sizes.leaves, &lists[0]);
+        let whole = count == leaves;
+        let built = lists.each_ref().map(|list| if whole { self.changed(list) } else { vec![] });
         let mut twice = list.clone();
         twice[(count - 1) * RECORD] = list[0];
-        let versions: [Push; 3] = [proved::push, trees::push::<Tuned, T, true>, trees::push::<Tuned, T, false>];
-        let mut race = Race::new(store, if brief { &versions[..2] } else { &versions });
+        // The last is the build.
+        let versions: [Option<Push>; 4] = [
+            Some(proved::push),
+            Some(trees::push::<Tuned, T, true>),
+            Some(trees::push::<Tuned, T, false>),
+            None,
+        ];
+        let mut race = Race::new(store, &versions[..if whole { 4 } else { 3 }]);
         let mut passes = [f64::MAX; 2];
         let mut search = repeats::is_searched(list).then_some(Search {
             alone: f64::MAX,
             refused: [f64::MAX; 2],
         });
         let calls = SAMPLE_RECORDS.div_ceil(count);
-        for _ in 0..rounds {
-            race.round(|version, round, store| self.push_once(version, store, &lists[round % 2]));
+        while race.goes_on(rounds) {
+            race.round(|version, round, store| match version {
+                Some(push) => self.push_once(push, store, &lists[round % 2], nodes),
+                None => assert_eq!(proved::build(black_box(&set), &built[round % 2], store), 0),
+            });
             for _ in 0..SAMPLES {
                 for (best, with) in passes.iter_mut().zip([false, true]) {
                     sample(best, calls, || {
@@ -530,9 +622,11 @@ impl<const T: usize> Case<T> {
             }
         }
         Tested {
+            made: nodes,
             proved: race.best[0],
             tuned: race.best[1],
-            untested: race.best.get(2).copied(),
+            untested: race.best[2],
+            build: race.best.get(3).copied(),
             passes,
             search,
         }
@@ -552,14 +646,13 @@ impl<const T: usize> Case<T> {
 
     /// Every version refuses a list of so many records that has a place twice, and leaves the store.
     pub fn assert_repeats_refused(&self, store: &[u64], count: usize, draw: &mut impl FnMut() -> u64) {
-        let versions: [Push; 3] = [proved::push, trees::push::<Tuned, T, true>, trees::push::<Plain, T, true>];
         let mut left = store.to_vec();
         for rising in [false, true] {
             let mut records = self.records(count, rising, draw);
             let last = (count - 1) * RECORD;
             for from in [0, count / 2 - 1, count - 2] {
                 records[last] = records[from * RECORD];
-                for version in versions {
+                for version in pushes::<T>() {
                     assert_eq!(version(&self.set(), &mut left, &records, &mut 0), REPEATED);
                     assert!(left == store, "a refused push wrote to the store");
                 }

@@ -43,8 +43,21 @@ pub struct Pushed {
     pub records: usize,
     pub rising: bool,
     pub times: Tested,
+    /// The most that proved/tuned is to be.
+    pub target: Option<f64>,
     /// Whether the test has targets here.
     pub aimed: bool,
+}
+
+impl Pushed {
+    /// How the places stand. One is in either order.
+    fn order(&self) -> &'static str {
+        match self.rising {
+            _ if self.records == 1 => "",
+            true => "rising",
+            false => "shuffled",
+        }
+    }
 }
 
 /// What there is to choose from, at about the same number of leaves.
@@ -59,6 +72,8 @@ pub struct Choice {
 }
 
 const FLOOR_TARGET: f64 = 1.05;
+/// The most that a push of all leaves over a build of them is to be.
+const WHOLE_TARGET: f64 = 1.10;
 /// The most that the test for a place that stands twice is to be, in per cent of the push, and in nanoseconds a record where there are
 /// fewer places than this.
 const SHARE_TARGET: f64 = 5.0;
@@ -178,10 +193,45 @@ pub fn print_absorptions(absorptions: &[Absorption]) {
 
 pub fn print_pushes(pushes: &[Pushed]) {
     println!(
-        "| leaves | records | places | push | proved/tuned | tuned, with the test/without | the test | of the push | target | a record \
-         | target | first pass and search, a record | the search, in whole calls |"
+        "| leaves | records | places | compressions | push | push, a compression | proved/tuned | target \
+         | build of the same leaves | push/build | target |"
     );
-    println!("|--:|--:|---|--:|--:|--:|--:|--:|---|--:|---|--:|--:|");
+    println!("|--:|--:|---|--:|--:|--:|--:|---|--:|--:|---|");
+    let mut aimed = vec![];
+    for p in pushes {
+        let Tested {
+            made,
+            proved,
+            tuned,
+            build,
+            ..
+        } = p.times;
+        aimed.extend(p.target.map(|most| (proved / tuned, most)));
+        aimed.extend(build.map(|build| (proved / build, WHOLE_TARGET)));
+        println!(
+            "| {} | {} | {} | {} | {} | {} | {:.3} | {} | {} | {} | {} |",
+            grouped(p.leaves),
+            grouped(p.records),
+            p.order(),
+            grouped(made as usize),
+            time(proved),
+            time(proved / made as f64),
+            proved / tuned,
+            mark(proved / tuned, p.target),
+            build.map_or(String::new(), time),
+            build.map_or(String::new(), |build| format!("{:.3}", proved / build)),
+            build.map_or(String::new(), |build| mark(proved / build, Some(WHOLE_TARGET))),
+        );
+    }
+    print_met(&aimed);
+}
+
+pub fn print_tests(pushes: &[Pushed]) {
+    println!(
+        "| leaves | records | places | push | tuned, with the test/without | the test | of the push | target | a record | target \
+         | first pass and search, a record | the search, in whole calls |"
+    );
+    println!("|--:|--:|---|--:|--:|--:|--:|---|--:|---|--:|--:|");
     let mut aimed = vec![];
     for p in pushes {
         let (times, test) = (p.times, p.times.test());
@@ -195,19 +245,12 @@ pub fn print_pushes(pushes: &[Pushed]) {
             format!("≤ {most} {unit}{missed}")
         };
         println!(
-            "| {} | {} | {} | {} | {:.3} | {} | {} | {share:.3} % | {} | {record:.2} ns | {} | {} | {} |",
+            "| {} | {} | {} | {} | {:.3} | {} | {share:.3} % | {} | {record:.2} ns | {} | {} | {} |",
             grouped(p.leaves),
             grouped(p.records),
-            match p.rising {
-                _ if p.records == 1 => "",
-                true => "rising",
-                false => "shuffled",
-            },
+            p.order(),
             time(times.proved),
-            times.proved / times.tuned,
-            times
-                .untested
-                .map_or(String::new(), |untested| format!("{:.3}", times.tuned / untested)),
+            times.tuned / times.untested,
             time(test),
             target(share, SHARE_TARGET, "%", p.aimed),
             target(record, RECORD_TARGET, "ns", p.aimed && p.leaves < RECORD_PLACES),

@@ -1,7 +1,7 @@
 //! The library's entries in Rust, over either version of the arithmetic. Each does what the proved entry does: it validates the set,
-//! tests lengths, places and words, and that no place of a push stands twice, and leaves every buffer as it was where it refuses. T is
-//! the width, known to the compiler.
-use crate::poseidon2::{add, residue, Version, P};
+//! tests lengths, places and words, and that no place of a push stands twice, and leaves every buffer as it was where it refuses. A push
+//! compresses every node above its places once. T is the width, known to the compiler.
+use crate::poseidon2::{add, residue, Plain, Tuned, Version, P};
 
 /// A parameter set, as it is handed in.
 pub struct Set<'a> {
@@ -26,6 +26,10 @@ pub const RECORD: usize = 7;
 pub const FEW: usize = 128;
 /// The places that a map has a bit for.
 const WINDOW: u64 = 1 << 20;
+/// The first word of a node that is to be rewritten: no word.
+const MARK: u64 = u64::MAX;
+/// On a level that has more nodes for each record than this, a push goes over its records, and on the others over the nodes.
+const SPARSE: usize = 8;
 
 /// Four numbers a turn, as the library does it, and then the last few.
 fn all_words(numbers: &[u64]) -> bool {
@@ -139,6 +143,28 @@ impl Sizes {
         self.height * self.beside()
     }
 
+    /// Where the words of node `leaves` + n begin, which row n is compressed to.
+    fn above(&self, n: usize) -> usize {
+        (self.leaves + n) * self.node
+    }
+
+    /// A record's leaf, written to its place.
+    fn put(&self, store: &mut [u64], record: &[u64]) {
+        let at = record[0] as usize * self.node;
+        store[at..at + self.node].copy_from_slice(&record[1..1 + self.node]);
+    }
+
+    /// The nodes above a place are marked, from below, up to one that is marked already.
+    fn mark_above(&self, store: &mut [u64], place: usize) {
+        for (n, _) in self.path(place) {
+            let first = &mut store[self.above(n)];
+            if *first == MARK {
+                break;
+            }
+            *first = MARK;
+        }
+    }
+
     /// Row and child of a node, by its number in the store; the node above it has the number `leaves` + row.
     fn path(&self, place: usize) -> impl Iterator<Item = (usize, usize)> + '_ {
         let mut number = place;
@@ -196,8 +222,18 @@ impl Rounds {
     #[inline(always)]
     fn rewrite<V: Version, const T: usize>(&self, sizes: &Sizes, store: &mut [u64], n: usize) {
         let node = self.compressed::<V, T>(store[n * T..n * T + T].try_into().unwrap());
-        let at = (sizes.leaves + n) * sizes.node;
+        let at = sizes.above(n);
         store[at..at + sizes.node].copy_from_slice(&node[..sizes.node]);
+    }
+
+    /// The same where that node is marked; how many compressions it takes.
+    #[inline(always)]
+    fn rewrite_marked<V: Version, const T: usize>(&self, sizes: &Sizes, store: &mut [u64], n: usize) -> u64 {
+        if store[sizes.above(n)] != MARK {
+            return 0;
+        }
+        self.rewrite::<V, T>(sizes, store, n);
+        1
     }
 
     /// A leaf and the nodes above it; how many these are.
@@ -418,9 +454,59 @@ fn repeats(records: &[u64], leaves: u64) -> bool {
     (0..leaves.div_ceil(WINDOW)).any(|window| window_repeats(records, window * WINDOW))
 }
 
+/// How a version writes the records of a push, which have been tested: every leaf, and every node above them once, from below. How many
+/// nodes these are.
+pub trait Writing: Version {
+    fn write<const T: usize>(rounds: &Rounds, sizes: &Sizes, store: &mut [u64], records: &[u64]) -> u64;
+}
+
+impl Writing for Tuned {
+    /// In the library's way, which takes no memory: the nodes are marked in the store, and then from below the marked ones are rewritten.
+    #[inline(never)]
+    fn write<const T: usize>(rounds: &Rounds, sizes: &Sizes, store: &mut [u64], records: &[u64]) -> u64 {
+        for record in records.chunks_exact(RECORD) {
+            sizes.put(store, record);
+            sizes.mark_above(store, record[0] as usize);
+        }
+        let many = SPARSE * places(records).len();
+        let (mut made, mut before, mut under) = (0, 0, sizes.arity);
+        while sizes.leaves / under > many {
+            for place in places(records) {
+                made += rounds.rewrite_marked::<Self, T>(sizes, store, before + place as usize / under);
+            }
+            before += sizes.leaves / under;
+            under *= sizes.arity;
+        }
+        for n in before..sizes.inner {
+            made += rounds.rewrite_marked::<Self, T>(sizes, store, n);
+        }
+        made
+    }
+}
+
+impl Writing for Plain {
+    /// With a list of the nodes of each level, which rises.
+    #[inline(never)]
+    fn write<const T: usize>(rounds: &Rounds, sizes: &Sizes, store: &mut [u64], records: &[u64]) -> u64 {
+        records.chunks_exact(RECORD).for_each(|record| sizes.put(store, record));
+        let mut nodes: Vec<usize> = places(records).map(|place| place as usize).collect();
+        nodes.sort();
+        let mut made = 0;
+        for _ in 0..sizes.height {
+            nodes.iter_mut().for_each(|node| *node = sizes.leaves + *node / sizes.arity);
+            nodes.dedup();
+            for &node in &nodes {
+                rounds.rewrite::<Self, T>(sizes, store, node - sizes.leaves);
+                made += 1;
+            }
+        }
+        made
+    }
+}
+
 /// A push that asks whether a place stands twice, or one that does not.
 #[inline(never)]
-pub fn push<V: Version, const T: usize, const TESTED: bool>(set: &Set, store: &mut [u64], records: &[u64], made: &mut u64) -> u8 {
+pub fn push<V: Writing, const T: usize, const TESTED: bool>(set: &Set, store: &mut [u64], records: &[u64], made: &mut u64) -> u8 {
     let number = validate::<V>(set);
     if number != DONE {
         return number;
@@ -442,10 +528,6 @@ pub fn push<V: Version, const T: usize, const TESTED: bool>(set: &Set, store: &m
     if TESTED && repeats(records, sizes.leaves as u64) {
         return REPEATED;
     }
-    let rounds = Rounds::of(set);
-    *made = 0;
-    for record in records.chunks_exact(RECORD) {
-        *made += rounds.replace::<V, T>(&sizes, store, record[0] as usize, &record[1..1 + sizes.node]);
-    }
+    *made = V::write::<T>(&Rounds::of(set), &sizes, store, records);
     DONE
 }
