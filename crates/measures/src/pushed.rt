@@ -61,7 +61,7 @@ pub extern "C" fn measured_first_pass(
     let few = both(repeats == 1, numbers.len() / 7 <= 128);
     let mut seen = [0u64; 128];
     let begun = beginning(places, repeats == 1, few);
-    found(passes::each_listed(set, &mut seen, numbers, passes::TEST, begun))
+    found(passes::test_listed(set, &mut seen, numbers, begun))
 }
 
 // The search for a place that stands twice.

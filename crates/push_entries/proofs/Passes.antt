@@ -17,15 +17,12 @@ use Rattle.refusals.proofs.LengthsPlacesAndWords.{twelve-first, twelve-passed}
 use Rattle.parameters.specs.declared.ParameterSet.{ParameterSet}
 use Rattle.parameters.specs.ParameterSet.{primeOf, setRefusals}
 use Rattle.parameters.proofs.Accepted.{set-numbered}
-use Rattle.merkle.specs.Marks.{markChange}
 use Rattle.merkle.specs.Numbering.{rowsBefore}
-use Rattle.merkle.specs.Replacement.{Change}
 use Rattle.repeats.specs.Repeats.{repeats}
 use Rattle.repeats.specs.Maps.{mapWords}
 use Rattle.repeats.proofs.Members.{member-none}
 use Rattle.trees.specs.SetTrees.{treeOf, dimensionsOf, leafCount, storeWords}
 use Rattle.trees.proofs.SetTrees as tree-of
-use Rattle.marks.specs.Marks.{mark}
 use Rattle.tree_entries.specs.Trees.{has}
 use Rattle.change_entries.specs.Replacement.{changedReply}
 use Rattle.pushes.specs.declared.record.Record.{Record}
@@ -35,6 +32,7 @@ use Rattle.push_entries.specs.Pushes.{pushRefusals, pushing, pushReply, 
 use Rattle.pushes.specs.Passes.{Pass, pass, keepable, testOf, isClear, mayWrite, mayRise, counting, markOf, finding, stepOf, eachOf, wanted, searchOf, levelsBy, byRecords, levelsUpTo, levelsOf, sweepOf, roomOf, Going, Rising, Sweeping}
 use Rattle.pushes.proofs.Tests.{Tested, tested-all, Seen, seen-all}
 use Rattle.pushes.proofs.Searching.{search-none, search-finds, search-only}
+use Rattle.pushes.proofs.Turns.{marks-tally}
 use Rattle.pushes.proofs.Ranks.{ranked, levels-few, by-few, levels-at, before-inside}
 use Rattle.push_entries.specs.Ends.{earlyRefusals, begun, beginOf, finishOf}
 use Rattle.push_entries.proofs.Early.{early-numbered}
@@ -421,20 +419,10 @@ module _ (s : ParameterSet) (xs : List ℕ) (ys : List Record) where
     unfolding roomOf
     third-asks = asks 1 (λ z. absurd (omega (arith, z))) xs afterSearch searched-way (λ f l. l) (λ z. absurd (omega (arith, z))) (lit< tt)
 
-    -- the marks leave the tally
-    marks-tally : (rs : List Record) (u : Pass) → eachOf s 1 rs u .tally ≡ u .tally
-    unfolding eachOf stepOf markOf
-    marks-tally [] u = refl
-    marks-tally (r ∷ rs) u = marks-tally rs (stepOf s 1 r u) ∙ go (mayWrite (u .tally) (r .place))
-      where
-        go : (b : Bool) → cond b (pass (u .tally) (markChange (treeOf s) mark (s .height) (record { place = r .place; leaf = leafOf (s .«node_size») r }) (u .buffer))) u .tally ≡ u .tally
-        go true = refl
-        go false = refl
-
     -- what the levels ask, and the nodes above them
     module _ (t : Tally) (zs : List ℕ) (e : t ≡ afterMarks .tally) (long : length zs ≡ length xs) where
       tally-is : t ≡ afterSearch
-      tally-is = e ∙ marks-tally ys (pass afterSearch xs)
+      tally-is = e ∙ marks-tally s ys (pass afterSearch xs)
 
       way-marks : Way t
       way-marks = subst Way (sym tally-is) searched-way

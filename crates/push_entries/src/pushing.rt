@@ -39,9 +39,9 @@ pub fn push_listed(set: ParameterSet, store: &mut [u64], numbers: &[u64]) -> Cha
         return Changed::Refused(begun.number);
     }
     let mut seen = [0u64; 128];
-    let tested = passes::each_listed(set, &mut seen, numbers, passes::TEST, begun);
+    let tested = passes::test_listed(set, &mut seen, numbers, begun);
     let searched = passes::search_listed(set, numbers, tested);
-    let marked = passes::each_listed(set, store, numbers, passes::MARK, searched);
+    let marked = passes::mark_listed(set, store, numbers, searched);
     let risen = passes::rise_listed(set, store, numbers, marked);
     let swept = levels::sweep(set, store, risen);
     ends::finish(swept)

@@ -76,16 +76,20 @@ test-follows s r u = go (eqb (u .tally .number) 0) refl
     }
     go false e = same (u .tally)
 
-mark-follows : (s : ParameterSet) (r : Record) (u : Pass) → Follows (u .tally) (markOf s r u .tally)
+-- the leaves and the marks leave the tally
+pub mark-tally : (s : ParameterSet) (r : Record) (u : Pass) → markOf s r u .tally ≡ u .tally
 unfolding markOf
-mark-follows s r u = go (mayWrite (u .tally) (r .place))
+mark-tally s r u = go (mayWrite (u .tally) (r .place))
   where
     marked : List ℕ
     marked = markChange (treeOf s) mark (s .height) (record { place = r .place; leaf = leafOf (s .«node_size») r }) (u .buffer)
 
-    go : (b : Bool) → Follows (u .tally) (cond b (pass (u .tally) marked) u .tally)
-    go true = same (u .tally)
-    go false = same (u .tally)
+    go : (b : Bool) → cond b (pass (u .tally) marked) u .tally ≡ u .tally
+    go true = refl
+    go false = refl
+
+mark-follows : (s : ParameterSet) (r : Record) (u : Pass) → Follows (u .tally) (markOf s r u .tally)
+mark-follows s r u = subst (Follows (u .tally)) (sym (mark-tally s r u)) (same (u .tally))
 
 -- a rewriting counts one, or none
 pub one-at-most : (S : Shape) (w n : ℕ) (c : Counted) → rewriteMarked S mark w n c .made ≤ c .made + 1

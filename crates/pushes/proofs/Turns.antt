@@ -1,6 +1,6 @@
 -- What the loop over the records keeps: the passes over what is left give what the pass over all gives.
 use mathlib.Core.Path.{_≡_, refl, sym, ap, subst, _∙_}
-use mathlib.Core.List.{List, []}
+use mathlib.Core.List.{List, [], _∷_}
 use Prim.Native.Nat.{ℕ, suc, _+_, _-_, _≤_, _<_}
 use native.Mathlib.Nat.{sub-zero}
 use native.Mathlib.Numerals.{add-one}
@@ -11,7 +11,7 @@ use Rattle.parameters.specs.declared.ParameterSet.{ParameterSet}
 use Rattle.pushes.specs.declared.record.Record.{Record}
 use Rattle.pushes.specs.declared.tally.Tally.{Tally}
 use Rattle.pushes.specs.Passes.{Pass, pass, Going, stepOf, eachOf}
-use Rattle.pushes.proofs.Records.{goes-on}
+use Rattle.pushes.proofs.Records.{mark-tally, goes-on}
 
 -- stands where a list has no record
 abbrev pub blank : Record
@@ -67,3 +67,9 @@ module _ (s : ParameterSet) (phase : ℕ) (rs : List Record) (t₀ : Tally) (xs 
     reached-all l =
         let e : pass t zs ≡ eachOf s phase rs (pass t₀ xs) = sym (ap (λ (qs : List Record). eachOf s phase qs (pass t zs)) (drop-of-length-le rs l)) ∙ reached .left in
         (ap (λ (u : Pass). u .tally) e, ap (λ (u : Pass). u .buffer) e)
+
+-- a pass that marks leaves the tally
+pub marks-tally : (s : ParameterSet) (rs : List Record) (u : Pass) → eachOf s 1 rs u .tally ≡ u .tally
+unfolding eachOf stepOf
+marks-tally s [] u = refl
+marks-tally s (r ∷ rs) u = marks-tally s rs (stepOf s 1 r u) ∙ mark-tally s r u

@@ -75,7 +75,7 @@ pub fn rise(set: ParameterSet, store: &mut [u64], records: &[Record], tally: Tal
     sum
 }
 
-// Over the records of a list of numbers, in order.
+// Over the records of a list of numbers, in order, by any phase.
 pub fn each_listed(
     set: ParameterSet,
     buffer: &mut [u64],
@@ -116,6 +116,59 @@ pub fn search_listed(set: ParameterSet, numbers: &[u64], tally: Tally) -> Tally
     sum
 }
 
+// The same by the phase that tests, in a loop of its own: so are the two that follow, as each has fewer numbers to hold than all together.
+pub fn test_listed(set: ParameterSet, seen: &mut [u64], numbers: &[u64], tally: Tally) -> Tally
+    requires { ⌜ Going set 0 (now seen) tally (length (now numbers) / 7) ⌝ }
+    ensures { λ r. ⌜ (r ≡ eachOf set 0 (listed (now (numbers .entry))) (pass tally (now (seen .entry))) .tally)
+        × (now (seen .exit) ≡ eachOf set 0 (listed (now (numbers .entry))) (pass tally (now (seen .entry))) .buffer) ⌝ }
+{
+    let count = numbers.len() / 7;
+    let mut i: usize = 0;
+    let mut sum = tally;
+    while i < count {
+        let item = listing::record_at(numbers, i);
+        let next = steps::test_record(set, seen, sum, item);
+        sum = next;
+        i += 1;
+    }
+    sum
+}
+
+// By the phase that writes leaves and marks the nodes above them.
+pub fn mark_listed(set: ParameterSet, store: &mut [u64], numbers: &[u64], tally: Tally) -> Tally
+    requires { ⌜ Going set 1 (now store) tally (length (now numbers) / 7) ⌝ }
+    ensures { λ r. ⌜ (r ≡ eachOf set 1 (listed (now (numbers .entry))) (pass tally (now (store .entry))) .tally)
+        × (now (store .exit) ≡ eachOf set 1 (listed (now (numbers .entry))) (pass tally (now (store .entry))) .buffer) ⌝ }
+{
+    let count = numbers.len() / 7;
+    let mut i: usize = 0;
+    let mut sum = tally;
+    while i < count {
+        let item = listing::record_at(numbers, i);
+        let next = steps::mark_item(set, store, sum, item);
+        sum = next;
+        i += 1;
+    }
+    sum
+}
+
+// By the phase that goes over a level: of the records the places alone are read.
+fn level_listed(set: ParameterSet, store: &mut [u64], numbers: &[u64], tally: Tally) -> Tally
+    requires { ⌜ Going set 2 (now store) tally (length (now numbers) / 7) ⌝ }
+    ensures { λ r. ⌜ (r ≡ eachOf set 2 (listed (now (numbers .entry))) (pass tally (now (store .entry))) .tally)
+        × (now (store .exit) ≡ eachOf set 2 (listed (now (numbers .entry))) (pass tally (now (store .entry))) .buffer) ⌝ }
+{
+    let count = numbers.len() / 7;
+    let mut i: usize = 0;
+    let mut sum = tally;
+    while i < count {
+        let next = steps::rise_item(set, store, sum, numbers[i * 7]);
+        sum = next;
+        i += 1;
+    }
+    sum
+}
+
 // Level by level over the records of a list of numbers.
 pub fn rise_listed(set: ParameterSet, store: &mut [u64], numbers: &[u64], tally: Tally) -> Tally
     requires { ⌜ Rising set (now store) tally (length (now numbers) / 7) ⌝ }
@@ -126,7 +179,7 @@ pub fn rise_listed(set: ParameterSet, store: &mut [u64], numbers: &[u64], tally:
     let mut level: u64 = 0;
     let mut sum = tally;
     while level < end {
-        let passed = each_listed(set, store, numbers, LEVEL, sum);
+        let passed = level_listed(set, store, numbers, sum);
         let next = levels::next(set, passed);
         sum = next;
         level += 1;

@@ -77,7 +77,7 @@ fn one_more(few: bool, kept: usize) -> usize
 }
 
 // The first pass: a record's place and leaf are tested.
-fn test_record(set: ParameterSet, seen: &mut [u64], tally: Tally, item: Record) -> Tally
+pub fn test_record(set: ParameterSet, seen: &mut [u64], tally: Tally, item: Record) -> Tally
     requires { ⌜ Going set 0 (now seen) tally 1 ⌝ }
     ensures { λ r. ⌜ (r ≡ testOf set item (pass tally (now (seen .entry))) .tally)
         × (now (seen .exit) ≡ testOf set item (pass tally (now (seen .entry))) .buffer) ⌝ }
@@ -130,7 +130,7 @@ fn mark_record(set: ParameterSet, store: &mut [u64], places: u64, place: u64, wo
 }
 
 // The pass after the tests: a record's leaf is written where nothing is refused.
-fn mark_item(set: ParameterSet, store: &mut [u64], tally: Tally, item: Record) -> Tally
+pub fn mark_item(set: ParameterSet, store: &mut [u64], tally: Tally, item: Record) -> Tally
     requires { ⌜ Going set 1 (now store) tally 1 ⌝ }
     ensures { λ r. ⌜ (r ≡ markOf set item (pass tally (now (store .entry))) .tally)
         × (now (store .exit) ≡ markOf set item (pass tally (now (store .entry))) .buffer) ⌝ }
@@ -175,7 +175,7 @@ fn rewrite_record(
 }
 
 // A pass over a level: the node over a record's place is rewritten where nothing is refused.
-fn rise_item(set: ParameterSet, store: &mut [u64], tally: Tally, place: u64) -> Tally
+pub fn rise_item(set: ParameterSet, store: &mut [u64], tally: Tally, place: u64) -> Tally
     requires { ⌜ Going set 2 (now store) tally 1 ⌝ }
     ensures { λ r. ⌜ (r ≡ riseOf set place (pass tally (now (store .entry))) .tally)
         × (now (store .exit) ≡ riseOf set place (pass tally (now (store .entry))) .buffer) ⌝ }

@@ -18,11 +18,11 @@ returns-2 c =
     let b = c .before .before in
     early-is-refused _ _ _ _ (b .begin .ensures) (b .before .before .if1 .left) (c .if2 .taken)
 
-slice-aggregate-each-listed : tie.Need-slice-aggregate-each-listed
-slice-aggregate-each-listed c = sym (length-replicate {A = ℕ} 128 0)
+slice-aggregate-test-listed : tie.Need-slice-aggregate-test-listed
+slice-aggregate-test-listed c = sym (length-replicate {A = ℕ} 128 0)
 
-each-listed-requires : tie.Need-each-listed-requires
-each-listed-requires c κs =
+test-listed-requires : tie.Need-test-listed-requires
+test-listed-requires c κs =
     let b = c .before .before .before in
     let i = b .before .before .before .before .before in
     test-asks _ _ (i .args .numbers .now) _ (b .begin .ensures) (i .good .1 .1 .0 .1)
@@ -32,15 +32,15 @@ search-listed-requires c κs =
     let t = c .before in
     let b = t .before .before .before .before in
     let i = b .before .before .before .before .before in
-    search-asks _ _ (i .args .numbers .now) _ (b .begin .ensures) (i .good .1 .1 .0 .1) _ (t .each-listed .ensures .0)
+    search-asks _ _ (i .args .numbers .now) _ (b .begin .ensures) (i .good .1 .1 .0 .1) _ (t .test-listed .ensures .0)
 
-each-listed-requires-2 : tie.Need-each-listed-requires-2
-each-listed-requires-2 c κs =
+mark-listed-requires : tie.Need-mark-listed-requires
+mark-listed-requires c κs =
     let s = c .before in
     let t = s .before .before in
     let b = t .before .before .before .before in
     let i = b .before .before .before .before .before in
-    mark-asks _ _ (i .args .numbers .now) _ (b .begin .ensures) (i .good .1 .1 .0 .1) _ (t .each-listed .ensures .0) _ (s .search-listed .ensures)
+    mark-asks _ _ (i .args .numbers .now) _ (b .begin .ensures) (i .good .1 .1 .0 .1) _ (t .test-listed .ensures .0) _ (s .search-listed .ensures)
 
 rise-listed-requires : tie.Need-rise-listed-requires
 rise-listed-requires c κs =
@@ -49,8 +49,8 @@ rise-listed-requires c κs =
     let t = s .before .before in
     let b = t .before .before .before .before in
     let i = b .before .before .before .before .before in
-    rise-asks _ _ (i .args .numbers .now) _ (b .begin .ensures) (i .good .1 .1 .0 .1) _ (t .each-listed .ensures .0) _ (s .search-listed .ensures)
-    _ _ (m .each-listed2 .ensures) (m .each-listed2 .kept .1 .0)
+    rise-asks _ _ (i .args .numbers .now) _ (b .begin .ensures) (i .good .1 .1 .0 .1) _ (t .test-listed .ensures .0) _ (s .search-listed .ensures)
+    _ _ (m .mark-listed .ensures) (m .mark-listed .kept .1 .0)
 
 sweep-requires : tie.Need-sweep-requires
 sweep-requires c κs =
@@ -60,8 +60,8 @@ sweep-requires c κs =
     let t = s .before .before in
     let b = t .before .before .before .before in
     let i = b .before .before .before .before .before in
-    sweep-asks _ _ (i .args .numbers .now) _ (b .begin .ensures) (i .good .1 .1 .0 .1) _ (t .each-listed .ensures .0) _ (s .search-listed .ensures)
-    _ _ (m .each-listed2 .ensures) (m .each-listed2 .kept .1 .0) _ _ (r .rise-listed .ensures) (r .rise-listed .kept .1 .0)
+    sweep-asks _ _ (i .args .numbers .now) _ (b .begin .ensures) (i .good .1 .1 .0 .1) _ (t .test-listed .ensures .0) _ (s .search-listed .ensures)
+    _ _ (m .mark-listed .ensures) (m .mark-listed .kept .1 .0) _ _ (r .rise-listed .ensures) (r .rise-listed .kept .1 .0)
 
 returns-3 : tie.Need-returns-3
 returns-3 c =
@@ -72,12 +72,12 @@ returns-3 c =
     let t = s .before .before in
     let b = t .before .before .before .before in
     let i = b .before .before .before .before .before in
-    whole-is-pushed _ _ (i .args .numbers .now) _ (b .begin .ensures) (i .good .1 .1 .0 .1) _ (t .each-listed .ensures .0) _ (s .search-listed .ensures)
-    _ _ (m .each-listed2 .ensures) (m .each-listed2 .kept .1 .0) _ _ (r .rise-listed .ensures) (r .rise-listed .kept .1 .0)
+    whole-is-pushed _ _ (i .args .numbers .now) _ (b .begin .ensures) (i .good .1 .1 .0 .1) _ (t .test-listed .ensures .0) _ (s .search-listed .ensures)
+    _ _ (m .mark-listed .ensures) (m .mark-listed .kept .1 .0) _ _ (r .rise-listed .ensures) (r .rise-listed .kept .1 .0)
     (b .before .before .if1 .left) _ _ (w .sweep .ensures) _ (c .finish .ensures)
 
 pub push-listed-spec : {M : Type 1} → statement M
 push-listed-spec =
     tie.close
-    (tie.spec (λ c κs. search needs) returns (λ c κs. search needs) (λ c. search needs) returns-2 slice-aggregate-each-listed each-listed-requires search-listed-requires
-    each-listed-requires-2 rise-listed-requires sweep-requires (λ c κs. search needs) (λ c. search needs) returns-3)
+    (tie.spec (λ c κs. search needs) returns (λ c κs. search needs) (λ c. search needs) returns-2 slice-aggregate-test-listed test-listed-requires search-listed-requires
+    mark-listed-requires rise-listed-requires sweep-requires (λ c κs. search needs) (λ c. search needs) returns-3)

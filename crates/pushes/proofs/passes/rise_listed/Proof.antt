@@ -27,8 +27,8 @@ presumed {s} {store} {t} ns G = subst (Rising s store t) (sym (listed-count ns))
 loop-holds : tie.Need-loop-holds Inv-loop μ-loop
 loop-holds c = let i = c .before .before .before in levels-begin _ _ _ _ (presumed (i .args .numbers .now) (i .pre))
 
-each-listed-requires : tie.Need-each-listed-requires Inv-loop μ-loop
-each-listed-requires c κs =
+level-listed-requires : tie.Need-level-listed-requires Inv-loop μ-loop
+level-listed-requires c κs =
     let l = c .before .before in
     let i = l .before .before .before .before in
     subst (Going (i .args .set) 2 (l .loop .store) (l .loop .sum)) (listed-count (i .args .numbers .now))
@@ -40,7 +40,7 @@ next-requires c κs =
     let t = e .before .before in
     let l = t .before in
     let i = l .before .before .before .before in
-    next-asks _ _ _ _ (presumed (i .args .numbers .now) (i .pre)) _ (omega (arith, t .loop-test .taken, l .before .by-records .ensures)) _ _ (l .loop .inv) _ _ (e .each-listed .ensures)
+    next-asks _ _ _ _ (presumed (i .args .numbers .now) (i .pre)) _ (omega (arith, t .loop-test .taken, l .before .by-records .ensures)) _ _ (l .loop .inv) _ _ (e .level-listed .ensures)
 
 add-level : tie.Need-add-level Inv-loop μ-loop
 add-level c = omega arith
@@ -54,8 +54,8 @@ loop-again c =
     let t = e .before .before in
     let l = t .before in
     let i = l .before .before .before .before in
-    level-next _ _ _ _ (presumed (i .args .numbers .now) (i .pre)) _ (omega (arith, t .loop-test .taken, l .before .by-records .ensures)) _ _ (l .loop .inv) _ _ (e .each-listed .ensures)
-    (e .each-listed .kept .1 .0) _ (c .next .ensures)
+    level-next _ _ _ _ (presumed (i .args .numbers .now) (i .pre)) _ (omega (arith, t .loop-test .taken, l .before .by-records .ensures)) _ _ (l .loop .inv) _ _ (e .level-listed .ensures)
+    (e .level-listed .kept .1 .0) _ (c .next .ensures)
 
 same-length : tie.Need-same-length Inv-loop μ-loop
 same-length c = c .before .loop .inv .long
@@ -69,4 +69,4 @@ returns c =
 pub rise-listed-spec : {M : Type 1} → statement M
 rise-listed-spec =
     tie.close
-    (tie.spec Inv-loop μ-loop (λ c κs. search needs) loop-holds each-listed-requires next-requires add-level loop-less loop-again same-length returns)
+    (tie.spec Inv-loop μ-loop (λ c κs. search needs) loop-holds level-listed-requires next-requires add-level loop-less loop-again same-length returns)

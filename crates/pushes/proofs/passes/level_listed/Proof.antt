@@ -1,0 +1,58 @@
+-- The loop keeps what that of `each` keeps by this phase, over the places of the records.
+use mathlib.Core.Path.{sym, subst, ap, _∙_}
+use Prim.Native.Nat.{ℕ, _-_, _/_, _<_}
+use native.Mathlib.Omega.{arith}
+use lib.ListN.{length}
+use borrow.Author.Needs.{needs}
+use Rattle.pushes.specs.Listed.{recordAt, listed}
+use Rattle.pushes.specs.Passes.{Going, stepOf}
+use Rattle.pushes.proofs.Turns.{blank, Reached, reached-none, step-asks, reached-next, reached-all}
+use Rattle.pushes.proofs.Listed.{listed-count, listed-at}
+use Rattle.pushes.proofs.passes.level_listed.Statement.{statement}
+use Rattle.pushes.proofs.passes.level_listed.Tie as tie
+
+abbrev Inv-loop : tie.InvT-loop
+Inv-loop set store₀ numbers count i₀ sum₀ store i sum = Reached set 2 (listed numbers) sum₀ store₀ i sum store
+
+abbrev μ-loop : tie.MeasureT-loop
+μ-loop set store₀ numbers count i₀ sum₀ store i sum = count - i
+
+loop-holds : tie.Need-loop-holds Inv-loop μ-loop
+loop-holds c =
+    let i = c .before .before in
+    let a = i .args in
+    reached-none _ _ _ _ _ (subst (Going (a .set) 2 (a .store .now) (a .tally)) (sym (listed-count (a .numbers .now))) (i .pre))
+
+rise-item-requires : tie.Need-rise-item-requires Inv-loop μ-loop
+rise-item-requires c κs =
+    let t = c .before .before in
+    let l = t .before in
+    step-asks _ _ _ _ _ _ _ _ (l .loop .inv) (omega (arith, t .loop-test .taken, listed-count (l .before .before .before .args .numbers .now)))
+
+add-i : tie.Need-add-i Inv-loop μ-loop
+add-i c = omega arith
+
+loop-less : tie.Need-loop-less Inv-loop μ-loop
+loop-less c = omega arith
+
+loop-again : tie.Need-loop-again Inv-loop μ-loop
+unfolding stepOf recordAt
+loop-again c =
+    let k = c .before .before in
+    let t = k .before .before .before in
+    let l = t .before in
+    let a = l .before .before .before .args in
+    let inside : l .loop .i < length (a .numbers .now) / 7 = omega (arith, t .loop-test .taken) in
+    let e = listed-at (a .numbers .now) (l .loop .i) blank inside in
+    reached-next _ _ _ _ _ _ _ _ (l .loop .inv) (omega (arith, inside, listed-count (a .numbers .now))) _ _ (rw e (k .rise-item .ensures)) (k .rise-item .kept .1 .0)
+
+same-length : tie.Need-same-length Inv-loop μ-loop
+same-length c = c .before .loop .inv .long
+
+returns : tie.Need-returns Inv-loop μ-loop
+returns c = reached-all _ _ _ _ _ _ _ _ (c .before .loop .inv) (omega (arith, c .loop-test .left, listed-count (c .before .before .before .before .args .numbers .now)))
+
+pub level-listed-spec : {M : Type 1} → statement M
+level-listed-spec =
+    tie.close
+    (tie.spec Inv-loop μ-loop loop-holds (λ c. omega (arith, c .before .loop-test .taken)) (λ c. omega (arith, c .before .loop-test .taken)) (λ c. omega (arith, c .before .before .loop-test .taken)) rise-item-requires add-i loop-less loop-again same-length returns)
