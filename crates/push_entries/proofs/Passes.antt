@@ -29,11 +29,11 @@ use Rattle.pushes.specs.declared.record.Record.{Record}
 use Rattle.pushes.specs.declared.tally.Tally.{Tally}
 use Rattle.pushes.specs.Records.{leafOf, changesOf, placesOf, placesBelow, usedWords}
 use Rattle.push_entries.specs.Pushes.{pushRefusals, pushing, pushReply, pushed}
-use Rattle.pushes.specs.Passes.{Pass, pass, keepable, testOf, isClear, mayWrite, mayRise, counting, markOf, finding, stepOf, eachOf, wanted, searchOf, levelsBy, byRecords, levelsUpTo, levelsOf, sweepOf, roomOf, Going, Rising, Sweeping}
+use Rattle.pushes.specs.Passes.{Pass, pass, keepable, testOf, isClear, mayWrite, mayRise, ranked, counting, markOf, finding, stepOf, eachOf, wanted, searchOf, levelsBy, byRecords, levelsUpTo, levelsOf, sweepOf, roomOf, Going, Rising, Sweeping}
 use Rattle.pushes.proofs.Tests.{Tested, tested-all, Seen, seen-all}
 use Rattle.pushes.proofs.Searching.{search-none, search-finds, search-only}
 use Rattle.pushes.proofs.Turns.{marks-tally}
-use Rattle.pushes.proofs.Ranks.{ranked, levels-few, by-few, levels-at, before-inside}
+use Rattle.pushes.proofs.Ranks.{levels-few, by-few, levels-at, before-inside}
 use Rattle.push_entries.specs.Ends.{earlyRefusals, begun, beginOf, finishOf}
 use Rattle.push_entries.proofs.Early.{early-numbered}
 use Rattle.push_entries.proofs.Writing.{Clear, Ready, writes}

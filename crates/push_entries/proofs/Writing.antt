@@ -28,9 +28,9 @@ use Rattle.marks.specs.Marks.{mark}
 use Rattle.pushes.specs.declared.record.Record.{Record}
 use Rattle.pushes.specs.declared.tally.Tally.{Tally}
 use Rattle.pushes.specs.Records.{leafOf, changesOf, placesOf, placesBelow, usedWords}
-use Rattle.pushes.specs.Passes.{Pass, pass, isClear, mayWrite, mayRise, counting, wrote, markOf, riseOf, stepOf, eachOf, byRecords, nextOf, upwards, levelsUpTo, levelsOf, sweepOf}
+use Rattle.pushes.specs.Passes.{Pass, pass, isClear, mayWrite, mayRise, ranked, counting, wrote, markOf, riseOf, stepOf, eachOf, byRecords, nextOf, upwards, levelsUpTo, levelsOf, sweepOf}
 use Rattle.pushes.proofs.Changes.{changes-places, changes-words, changes-fit}
-use Rattle.pushes.proofs.Ranks.{ranked, first-under, next-before, next-under}
+use Rattle.pushes.proofs.Ranks.{first-under, next-before, next-under}
 
 -- ---- a tally that allows every write
 

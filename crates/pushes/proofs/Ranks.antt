@@ -26,7 +26,7 @@ use Rattle.trees.proofs.SetTrees as tree-of
 use Rattle.marks.specs.Marks.{mark, Rank}
 use Rattle.pushes.specs.declared.record.Record.{Record}
 use Rattle.pushes.specs.declared.tally.Tally.{Tally}
-use Rattle.pushes.specs.Passes.{Pass, pass, Going, Rising, Risen, isClear, mayWrite, mayRise, counting, wrote, riseOf, stepOf, eachOf, levelsBy, byRecords, nextOf, upwards, levelsUpTo, levelsOf, roomOf}
+use Rattle.pushes.specs.Passes.{Pass, pass, Going, Rising, Risen, isClear, mayWrite, mayRise, ranked, counting, wrote, riseOf, stepOf, eachOf, levelsBy, byRecords, nextOf, upwards, levelsUpTo, levelsOf, roomOf}
 use Rattle.pushes.proofs.Records.{one-at-most}
 
 -- ---- how many they are
@@ -148,24 +148,6 @@ module _ (s : ParameterSet) (none : firstRefusal (setRefusals s) ≡ 0) where
         omega (arith, R .rows (s .diagonal) (s .constants), before-low (R .level) (R .low), inner-few (treeOf s) (tree-of.shape-regular s none) h, v .few, div-le-self (leafCount s) under)
 
 -- ---- a pass over a level
-
--- a tally at the numbers of another level, and with another count
-abbrev pub ranked : Tally → ℕ → ℕ → ℕ → Tally
-ranked t b u m = record {
-  number = t .number;
-  places = t .places;
-  placed = t .placed;
-  words = t .words;
-  distinct = t .distinct;
-  rising = t .rising;
-  above = t .above;
-  few = t .few;
-  kept = t .kept;
-  levels = t .levels;
-  before = b;
-  under = u;
-  made = m;
-}
 
 -- it changes the count alone, and by one a record at most
 each-counts : (s : ParameterSet) (rs : List Record) (u : Pass) → (m : ℕ) × (m ≤ u .tally .made + length rs) × (eachOf s 2 rs u .tally ≡ counting (u .tally) m)

@@ -1,7 +1,7 @@
 -- What the loop over the records keeps: the passes over what is left give what the pass over all gives.
 use mathlib.Core.Path.{_≡_, refl, sym, ap, subst, _∙_}
 use mathlib.Core.List.{List, [], _∷_}
-use Prim.Native.Nat.{ℕ, suc, _+_, _-_, _≤_, _<_}
+use Prim.Native.Nat.{ℕ, suc, _+_, _-_, _/_, _≤_, _<_}
 use native.Mathlib.Nat.{sub-zero}
 use native.Mathlib.Numerals.{add-one}
 use native.Mathlib.Omega.{arith}
@@ -10,7 +10,9 @@ use lib.Seq.{drop-cons}
 use Rattle.parameters.specs.declared.ParameterSet.{ParameterSet}
 use Rattle.pushes.specs.declared.record.Record.{Record}
 use Rattle.pushes.specs.declared.tally.Tally.{Tally}
+use Rattle.pushes.specs.Listed.{recordAt, listed}
 use Rattle.pushes.specs.Passes.{Pass, pass, Going, stepOf, eachOf}
+use Rattle.pushes.proofs.Listed.{listed-count, listed-at}
 use Rattle.pushes.proofs.Records.{mark-tally, goes-on}
 
 -- stands where a list has no record
@@ -67,6 +69,28 @@ module _ (s : ParameterSet) (phase : ℕ) (rs : List Record) (t₀ : Tally) (xs 
     reached-all l =
         let e : pass t zs ≡ eachOf s phase rs (pass t₀ xs) = sym (ap (λ (qs : List Record). eachOf s phase qs (pass t zs)) (drop-of-length-le rs l)) ∙ reached .left in
         (ap (λ (u : Pass). u .tally) e, ap (λ (u : Pass). u .buffer) e)
+
+-- ---- over the records of a list of numbers, of which a loop counts a seventh of the length
+
+module _ (s : ParameterSet) (phase : ℕ) (ns : List ℕ) (t₀ : Tally) (xs : List ℕ) where
+  pub listed-none : Going s phase xs t₀ (length ns / 7) → Reached s phase (listed ns) t₀ xs 0 t₀ xs
+  listed-none G = reached-none s phase (listed ns) t₀ xs (subst (Going s phase xs t₀) (sym (listed-count ns)) G)
+
+  module _ (i : ℕ) (t : Tally) (zs : List ℕ) (reached : Reached s phase (listed ns) t₀ xs i t zs) where
+    pub listed-asks : i < length ns / 7 → Going s phase zs t 1
+    listed-asks l = step-asks s phase (listed ns) t₀ xs i t zs reached (omega (arith, l, listed-count ns))
+
+    pub listed-next : i < length ns / 7 → (t′ : Tally) (zs′ : List ℕ)
+        → (t′ ≡ stepOf s phase (recordAt ns i) (pass t zs) .tally) × (zs′ ≡ stepOf s phase (recordAt ns i) (pass t zs) .buffer)
+        → length zs′ ≡ length zs → Reached s phase (listed ns) t₀ xs (i + 1) t′ zs′
+    listed-next l t′ zs′ e =
+        reached-next s phase (listed ns) t₀ xs i t zs reached (omega (arith, l, listed-count ns)) t′ zs′
+        (subst (λ (r : Record). (t′ ≡ stepOf s phase r (pass t zs) .tally) × (zs′ ≡ stepOf s phase r (pass t zs) .buffer)) (sym (listed-at ns i blank l)) e)
+
+    pub listed-all : length ns / 7 ≤ i → (t ≡ eachOf s phase (listed ns) (pass t₀ xs) .tally) × (zs ≡ eachOf s phase (listed ns) (pass t₀ xs) .buffer)
+    listed-all l = reached-all s phase (listed ns) t₀ xs i t zs reached (omega (arith, l, listed-count ns))
+
+-- ----
 
 -- a pass that marks leaves the tally
 pub marks-tally : (s : ParameterSet) (rs : List Record) (u : Pass) → eachOf s 1 rs u .tally ≡ u .tally

@@ -88,8 +88,9 @@ isClear t = eqb (t .number) 0 && (t .placed && t .words)
 unfoldable pub mayWrite : Tally → ℕ → Bool
 mayWrite t q = isClear t && (t .distinct && ltb q (t .places))
 
-abbrev pub counting : Tally → ℕ → Tally
-counting t n = record {
+-- a tally at the numbers of a level, and with this count
+abbrev pub ranked : Tally → ℕ → ℕ → ℕ → Tally
+ranked t before under n = record {
   number = t .number;
   places = t .places;
   placed = t .placed;
@@ -100,10 +101,13 @@ counting t n = record {
   few = t .few;
   kept = t .kept;
   levels = t .levels;
-  before = t .before;
-  under = t .under;
+  before = before;
+  under = under;
   made = n;
 }
+
+abbrev pub counting : Tally → ℕ → Tally
+counting t n = ranked t (t .before) (t .under) n
 
 abbrev pub wrote : Tally → Counted → Pass
 wrote t c = pass (counting t (c .made)) (c .store)
@@ -198,21 +202,7 @@ byRecords t = cond (mayRise t) (t .levels) 0
 
 -- the numbers of the next level
 unfoldable pub nextOf : ParameterSet → Tally → Tally
-nextOf s t = record {
-  number = t .number;
-  places = t .places;
-  placed = t .placed;
-  words = t .words;
-  distinct = t .distinct;
-  rising = t .rising;
-  above = t .above;
-  few = t .few;
-  kept = t .kept;
-  levels = t .levels;
-  before = t .before + t .places / t .under;
-  under = t .under * dimensionsOf s .arity;
-  made = t .made;
-}
+nextOf s t = ranked t (t .before + t .places / t .under) (t .under * dimensionsOf s .arity) (t .made)
 
 abbrev pub upwards : ParameterSet → Pass → Pass
 upwards s u = pass (nextOf s (u .tally)) (u .buffer)

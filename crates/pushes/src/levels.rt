@@ -11,6 +11,7 @@ ghost use Rattle.trees.specs.SetTrees.{treeOf, leafCount, storeWords};
 ghost use Rattle.marks.specs.Marks.{mark};
 ghost use Rattle.pushes.specs.Passes.{pass, Sweeping, Risen, levelsBy, byRecords, nextOf, sweepOf};
 use crate::steps;
+use crate::tally;
 use crate::tally::Tally;
 use marks::rewriting;
 use parameters::ParameterSet;
@@ -49,21 +50,8 @@ pub fn next(set: ParameterSet, tally: Tally) -> Tally
     ensures { λ r. ⌜ r ≡ nextOf set tally ⌝ }
 {
     let d = sets::dimensions(set);
-    Tally {
-        number: tally.number,
-        places: tally.places,
-        placed: tally.placed,
-        words: tally.words,
-        distinct: tally.distinct,
-        rising: tally.rising,
-        above: tally.above,
-        few: tally.few,
-        kept: tally.kept,
-        levels: tally.levels,
-        before: tally.before + tally.places as usize / tally.under,
-        under: tally.under * d.arity,
-        made: tally.made,
-    }
+    let before = tally.before + tally.places as usize / tally.under;
+    tally::ranked(tally, before, tally.under * d.arity, tally.made)
 }
 
 // The marked nodes from the first of these numbers on: the count that is handed in goes on.
@@ -97,19 +85,5 @@ pub fn sweep(set: ParameterSet, store: &mut [u64], tally: Tally) -> Tally
         return tally;
     }
     let made = sweep_from(set, store, tally.places, tally.before, tally.made);
-    Tally {
-        number: tally.number,
-        places: tally.places,
-        placed: tally.placed,
-        words: tally.words,
-        distinct: tally.distinct,
-        rising: tally.rising,
-        above: tally.above,
-        few: tally.few,
-        kept: tally.kept,
-        levels: tally.levels,
-        before: tally.before,
-        under: tally.under,
-        made: made,
-    }
+    tally::ranked(tally, tally.before, tally.under, made)
 }

@@ -15,6 +15,7 @@ ghost use Rattle.marks.specs.Marks.{mark, Rank};
 ghost use Rattle.repeats.specs.Maps.{mapWords};
 ghost use Rattle.pushes.specs.Passes.{pass, Going, aboveOf, freshOf, keeping, oneMore, testOf, isClear, mayWrite, markOf, riseOf, noteOf, stepOf, searchEnd};
 use crate::record::Record;
+use crate::tally;
 use crate::tally::Tally;
 use marks::marking;
 use marks::rewriting;
@@ -192,21 +193,7 @@ pub fn rise_item(set: ParameterSet, store: &mut [u64], tally: Tally, place: u64)
         place,
         tally.made,
     );
-    Tally {
-        number: tally.number,
-        places: tally.places,
-        placed: tally.placed,
-        words: tally.words,
-        distinct: tally.distinct,
-        rising: tally.rising,
-        above: tally.above,
-        few: tally.few,
-        kept: tally.kept,
-        levels: tally.levels,
-        before: tally.before,
-        under: tally.under,
-        made: made,
-    }
+    tally::ranked(tally, tally.before, tally.under, made)
 }
 
 // A pass of the search: a record's place is noted in the map of a window, until one is found twice.

@@ -1,4 +1,6 @@
 // What a push has found and made so far.
+ghost use mathlib.Core.Path.{_≡_};
+ghost use Rattle.pushes.specs.Passes.{ranked};
 
 pub struct Tally {
     // the number of the first of refusals 1 to 10 that applies, or 0; with 0, `places` is k^h
@@ -21,4 +23,25 @@ pub struct Tally {
     pub under: usize,
     // the compressions made
     pub made: u64,
+}
+
+// The same at the numbers of a level, and with this count.
+pub fn ranked(tally: Tally, before: usize, under: usize, made: u64) -> Tally
+    ensures { λ r. ⌜ r ≡ ranked tally before under made ⌝ }
+{
+    Tally {
+        number: tally.number,
+        places: tally.places,
+        placed: tally.placed,
+        words: tally.words,
+        distinct: tally.distinct,
+        rising: tally.rising,
+        above: tally.above,
+        few: tally.few,
+        kept: tally.kept,
+        levels: tally.levels,
+        before: before,
+        under: under,
+        made: made,
+    }
 }

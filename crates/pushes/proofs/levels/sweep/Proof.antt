@@ -26,9 +26,12 @@ sweep-from-requires c κs =
 returns-2 : tie.Need-returns-2
 unfolding sweepOf
 returns-2 c =
-    let w = c .before .before in
+    let w = c .before .before .before in
     let e = w .before .before in
-    rw (sym (allowed (e .before)) ∙ not-false _ (e .if1 .left)) (λ i. counting (e .before .before .before .before .args .tally) (w .sweep-from .ensures .0 i), w .sweep-from .ensures .1)
+    rw (sym (allowed (e .before)) ∙ not-false _ (e .if1 .left))
+    (c .ranked .ensures ∙ (λ i. counting (e .before .before .before .before .args .tally) (w .sweep-from .ensures .0 i)), w .sweep-from .ensures .1)
 
 pub sweep-spec : {M : Type 1} → statement M
-sweep-spec = tie.close (tie.spec (λ c κs. search needs) (λ c κs. search needs) returns sweep-from-requires (λ c. search needs) returns-2)
+sweep-spec =
+    tie.close
+    (tie.spec (λ c κs. search needs) (λ c κs. search needs) returns sweep-from-requires (λ c κs. search needs) (λ c. search needs) returns-2)

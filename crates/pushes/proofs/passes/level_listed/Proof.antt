@@ -1,13 +1,10 @@
 -- The loop keeps what that of `each` keeps by this phase, over the places of the records.
-use mathlib.Core.Path.{sym, subst, ap, _∙_}
-use Prim.Native.Nat.{ℕ, _-_, _/_, _<_}
+use Prim.Native.Nat.{_-_}
 use native.Mathlib.Omega.{arith}
-use lib.ListN.{length}
 use borrow.Author.Needs.{needs}
 use Rattle.pushes.specs.Listed.{recordAt, listed}
-use Rattle.pushes.specs.Passes.{Going, stepOf}
-use Rattle.pushes.proofs.Turns.{blank, Reached, reached-none, step-asks, reached-next, reached-all}
-use Rattle.pushes.proofs.Listed.{listed-count, listed-at}
+use Rattle.pushes.specs.Passes.{stepOf}
+use Rattle.pushes.proofs.Turns.{Reached, listed-none, listed-asks, listed-next, listed-all}
 use Rattle.pushes.proofs.passes.level_listed.Statement.{statement}
 use Rattle.pushes.proofs.passes.level_listed.Tie as tie
 
@@ -18,16 +15,10 @@ abbrev μ-loop : tie.MeasureT-loop
 μ-loop set store₀ numbers count i₀ sum₀ store i sum = count - i
 
 loop-holds : tie.Need-loop-holds Inv-loop μ-loop
-loop-holds c =
-    let i = c .before .before in
-    let a = i .args in
-    reached-none _ _ _ _ _ (subst (Going (a .set) 2 (a .store .now) (a .tally)) (sym (listed-count (a .numbers .now))) (i .pre))
+loop-holds c = listed-none _ _ _ _ _ (c .before .before .pre)
 
 rise-item-requires : tie.Need-rise-item-requires Inv-loop μ-loop
-rise-item-requires c κs =
-    let t = c .before .before in
-    let l = t .before in
-    step-asks _ _ _ _ _ _ _ _ (l .loop .inv) (omega (arith, t .loop-test .taken, listed-count (l .before .before .before .args .numbers .now)))
+rise-item-requires c κs = let t = c .before .before in listed-asks _ _ _ _ _ _ _ _ (t .before .loop .inv) (omega (arith, t .loop-test .taken))
 
 add-i : tie.Need-add-i Inv-loop μ-loop
 add-i c = omega arith
@@ -40,17 +31,13 @@ unfolding stepOf recordAt
 loop-again c =
     let k = c .before .before in
     let t = k .before .before .before in
-    let l = t .before in
-    let a = l .before .before .before .args in
-    let inside : l .loop .i < length (a .numbers .now) / 7 = omega (arith, t .loop-test .taken) in
-    let e = listed-at (a .numbers .now) (l .loop .i) blank inside in
-    reached-next _ _ _ _ _ _ _ _ (l .loop .inv) (omega (arith, inside, listed-count (a .numbers .now))) _ _ (rw e (k .rise-item .ensures)) (k .rise-item .kept .1 .0)
+    listed-next _ _ _ _ _ _ _ _ (t .before .loop .inv) (omega (arith, t .loop-test .taken)) _ _ (k .rise-item .ensures) (k .rise-item .kept .1 .0)
 
 same-length : tie.Need-same-length Inv-loop μ-loop
 same-length c = c .before .loop .inv .long
 
 returns : tie.Need-returns Inv-loop μ-loop
-returns c = reached-all _ _ _ _ _ _ _ _ (c .before .loop .inv) (omega (arith, c .loop-test .left, listed-count (c .before .before .before .before .args .numbers .now)))
+returns c = listed-all _ _ _ _ _ _ _ _ (c .before .loop .inv) (omega (arith, c .loop-test .left))
 
 pub level-listed-spec : {M : Type 1} → statement M
 level-listed-spec =

@@ -1,12 +1,9 @@
 -- The loop keeps what that of `each` keeps by this phase, over the records of the list.
-use mathlib.Core.Path.{sym, subst, _∙_}
-use Prim.Native.Nat.{_-_, _/_, _<_}
+use Prim.Native.Nat.{_-_}
 use native.Mathlib.Omega.{arith}
-use lib.ListN.{length}
-use Rattle.pushes.specs.Passes.{Going, stepOf}
-use Rattle.pushes.proofs.Turns.{blank, Reached, reached-none, step-asks, reached-next, reached-all}
+use Rattle.pushes.specs.Passes.{stepOf}
+use Rattle.pushes.proofs.Turns.{Reached, listed-none, listed-asks, listed-next, listed-all}
 use Rattle.pushes.specs.Listed.{listed}
-use Rattle.pushes.proofs.Listed.{listed-count, listed-at}
 use Rattle.pushes.proofs.passes.test_listed.Statement.{statement}
 use Rattle.pushes.proofs.passes.test_listed.Tie as tie
 
@@ -17,18 +14,13 @@ abbrev μ-loop : tie.MeasureT-loop
 μ-loop set seen₀ numbers count i₀ sum₀ seen i sum = count - i
 
 loop-holds : tie.Need-loop-holds Inv-loop μ-loop
-loop-holds c =
-    let i = c .before .before in
-    let a = i .args in
-    reached-none _ _ _ _ _ (subst (Going (a .set) 0 (a .seen .now) (a .tally)) (sym (listed-count (a .numbers .now))) (i .pre))
+loop-holds c = listed-none _ _ _ _ _ (c .before .before .pre)
 
 record-at-requires : tie.Need-record-at-requires Inv-loop μ-loop
 record-at-requires c κs = omega (arith, c .loop-test .taken)
 
 test-record-requires : tie.Need-test-record-requires Inv-loop μ-loop
-test-record-requires c κs =
-    let l = c .before .before in
-    step-asks _ _ _ _ _ _ _ _ (l .before .loop .inv) (omega (arith, l .loop-test .taken, listed-count (l .before .before .before .before .args .numbers .now)))
+test-record-requires c κs = let l = c .before .before in listed-asks _ _ _ _ _ _ _ _ (l .before .loop .inv) (omega (arith, l .loop-test .taken))
 
 add-i : tie.Need-add-i Inv-loop μ-loop
 add-i c = omega arith
@@ -42,16 +34,13 @@ loop-again c =
     let k = c .before .before in
     let r = k .before .before in
     let l = r .before .before in
-    let a = l .before .before .before .args in
-    let inside : l .loop .i < length (a .numbers .now) / 7 = omega (arith, r .before .loop-test .taken) in
-    let e = r .record-at .ensures ∙ sym (listed-at (a .numbers .now) (l .loop .i) blank inside) in
-    reached-next _ _ _ _ _ _ _ _ (l .loop .inv) (omega (arith, inside, listed-count (a .numbers .now))) _ _ (rw e at (k .test-record .ensures)) (k .test-record .kept .1 .0)
+    listed-next _ _ _ _ _ _ _ _ (l .loop .inv) (omega (arith, r .before .loop-test .taken)) _ _ (rw (r .record-at .ensures) at (k .test-record .ensures)) (k .test-record .kept .1 .0)
 
 same-length : tie.Need-same-length Inv-loop μ-loop
 same-length c = c .before .loop .inv .long
 
 returns : tie.Need-returns Inv-loop μ-loop
-returns c = reached-all _ _ _ _ _ _ _ _ (c .before .loop .inv) (omega (arith, c .loop-test .left, listed-count (c .before .before .before .before .args .numbers .now)))
+returns c = listed-all _ _ _ _ _ _ _ _ (c .before .loop .inv) (omega (arith, c .loop-test .left))
 
 pub test-listed-spec : {M : Type 1} → statement M
 test-listed-spec =

@@ -24,10 +24,10 @@ rewrite-record-requires c κs =
 returns-2 : tie.Need-returns-2
 unfolding riseOf
 returns-2 c =
-    let w = c .before .before in
+    let w = c .before .before .before in
     let e = w .before .before in
     let may = sym (e .before .may-write .ensures) ∙ not-false _ (e .if1 .left) in
-    rw may (λ i. counting (e .before .before .before .args .tally) (w .rewrite-record .ensures .0 i), w .rewrite-record .ensures .1)
+    rw may (c .ranked .ensures ∙ (λ i. counting (e .before .before .before .args .tally) (w .rewrite-record .ensures .0 i)), w .rewrite-record .ensures .1)
 
 pub rise-item-spec : {M : Type 1} → statement M
-rise-item-spec = tie.close (tie.spec (λ c κs. search needs) returns rewrite-record-requires (λ c. search needs) returns-2)
+rise-item-spec = tie.close (tie.spec (λ c κs. search needs) returns rewrite-record-requires (λ c κs. search needs) (λ c. search needs) returns-2)
