@@ -5,7 +5,6 @@ ghost use lib.ListN.{length};
 ghost use Rattle.parameters.specs.ParameterSet.{holding};
 ghost use Rattle.pushes.specs.Listed.{listed};
 ghost use Rattle.measures.specs.Pushed.{beginning, found, firstPass, searching, Pushable};
-use pushes::passes;
 use pushes::steps::both;
 use pushes::tally::Tally;
 

@@ -30,10 +30,11 @@ use Rattle.pushes.specs.declared.tally.Tally.{Tally}
 use Rattle.pushes.specs.Records.{leafOf, changesOf, placesOf, placesBelow, usedWords}
 use Rattle.push_entries.specs.Pushes.{pushRefusals, pushing, pushReply, pushed}
 use Rattle.pushes.specs.Passes.{Pass, pass, keepable, testOf, isClear, mayWrite, mayRise, ranked, counting, markOf, finding, stepOf, eachOf, wanted, searchOf, levelsBy, byRecords, levelsUpTo, levelsOf, sweepOf, roomOf, Going, Rising, Sweeping}
-use Rattle.pushes.proofs.Tests.{Tested, tested-all, Seen, seen-all}
-use Rattle.pushes.proofs.Searching.{search-none, search-finds, search-only}
-use Rattle.pushes.proofs.Turns.{marks-tally}
-use Rattle.pushes.proofs.Ranks.{levels-few, by-few, levels-at, before-inside}
+use Rattle.passes.proofs.Tests.{Tested, tested-all, Seen, seen-all}
+use Rattle.passes.proofs.Searching.{search-none, search-finds, search-only}
+use Rattle.passes.proofs.Turns.{marks-tally}
+use Rattle.pushes.proofs.Ranks.{levels-few, by-few, before-inside}
+use Rattle.passes.proofs.Rising.{levels-at}
 use Rattle.push_entries.specs.Ends.{earlyRefusals, begun, beginOf, finishOf}
 use Rattle.push_entries.proofs.Early.{early-numbered}
 use Rattle.push_entries.proofs.Writing.{Clear, Ready, writes}

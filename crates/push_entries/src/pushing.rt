@@ -8,7 +8,6 @@ use change_entries::Changed;
 use parameters::ParameterSet;
 use pushes::Record;
 use pushes::levels;
-use pushes::passes;
 
 // All records are tested and a place that stands twice is searched; then all leaves are written, the nodes above them marked, and the marked
 // nodes rewritten level by level; or nothing is written. The places that are compared are kept in an array.

@@ -1,12 +1,6 @@
--- The laws of records and passes, and what the proofs of the walked functions cite.
-mod Records
+-- The laws of records, of one record in a pass, and of the levels' numbers.
+pub mod Records
 pub mod Changes
 mod Keeping
 pub mod Listed
-pub mod Turns
-pub mod Tests
-pub mod Searching
 pub mod Ranks
-pub mod Lending
-pub mod Rooms
-pub mod Values

@@ -1,7 +1,7 @@
-// Replacement records, and the passes that a push makes over them. Every function presumes what the push has tested before.
+// Replacement records, and what a pass of a push does with each; the levels, and what it has found and made so far. Every function presumes
+// what the push has tested before.
 pub mod levels;
 pub mod listing;
-pub mod passes;
 pub mod record;
 pub mod steps;
 pub mod tally;

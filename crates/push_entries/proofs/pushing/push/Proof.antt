@@ -60,27 +60,27 @@ use Rattle.push_entries.specs.Pushes.{pushReply, pushed}
 use Rattle.pushes.specs.Passes.{Pass, pass, Going, Rising, Sweeping, eachOf, searchOf, levelsOf, sweepOf}
 use Rattle.push_entries.specs.Ends.{beginOf, finishOf}
 use Rattle.push_entries.proofs.Passes.{begins, afterTests, afterSearch, afterMarks, afterLevels, pushes, first-asks, second-asks, third-asks, fourth-asks, fifth-asks}
-use Rattle.pushes.proofs.Lending.{LentMut, lends-mut, mut-back, LentShr, lends-shr, shr-back}
-use Rattle.pushes.proofs.Rooms.{zerosVal, lentRoom, zeros-lie, lends-room, room-back}
-use Rattle.pushes.proofs.Values.{R, tv, pv, word, storeTy, recordsTy}
+use Rattle.passes.proofs.Lending.{LentMut, lends-mut, mut-back, LentShr, lends-shr, shr-back}
+use Rattle.passes.proofs.Rooms.{zerosVal, lentRoom, zeros-lie, lends-room, room-back}
+use Rattle.passes.proofs.Values.{R, tv, pv, word, storeTy, recordsTy}
 use Rattle.pushes.proofs.tally.Tally as Y
 use Rattle.pushes.proofs.tally.Tally.Laws as Y′
 use Rattle.push_entries.proofs.ends.begin as begin
 use Rattle.push_entries.proofs.ends.begin.Symbol as begin-def
 use Rattle.push_entries.proofs.ends.begin.Symbol.{name as #begin}
 use Rattle.push_entries.proofs.ends.begin.Met as begin-met
-use Rattle.pushes.proofs.passes.each as each
-use Rattle.pushes.proofs.passes.each.Symbol as each-def
-use Rattle.pushes.proofs.passes.each.Symbol.{name as #each}
-use Rattle.pushes.proofs.passes.each.Met as each-met
-use Rattle.pushes.proofs.passes.search as search-in
-use Rattle.pushes.proofs.passes.search.Symbol as search-def
-use Rattle.pushes.proofs.passes.search.Symbol.{name as #search}
-use Rattle.pushes.proofs.passes.search.Met as search-met
-use Rattle.pushes.proofs.passes.rise as rise
-use Rattle.pushes.proofs.passes.rise.Symbol as rise-def
-use Rattle.pushes.proofs.passes.rise.Symbol.{name as #rise}
-use Rattle.pushes.proofs.passes.rise.Met as rise-met
+use Rattle.passes.proofs.each as each
+use Rattle.passes.proofs.each.Symbol as each-def
+use Rattle.passes.proofs.each.Symbol.{name as #each}
+use Rattle.passes.proofs.each.Met as each-met
+use Rattle.passes.proofs.search as search-in
+use Rattle.passes.proofs.search.Symbol as search-def
+use Rattle.passes.proofs.search.Symbol.{name as #search}
+use Rattle.passes.proofs.search.Met as search-met
+use Rattle.passes.proofs.rise as rise
+use Rattle.passes.proofs.rise.Symbol as rise-def
+use Rattle.passes.proofs.rise.Symbol.{name as #rise}
+use Rattle.passes.proofs.rise.Met as rise-met
 use Rattle.pushes.proofs.levels.sweep as sweep
 use Rattle.pushes.proofs.levels.sweep.Symbol as sweep-def
 use Rattle.pushes.proofs.levels.sweep.Symbol.{name as #sweep}
@@ -491,8 +491,8 @@ push-spec 𝓤 H 𝓜 𝓖 𝓡 =
     (tables 𝓤 H 𝓜 𝓡 code.env .C) (tables 𝓤 H 𝓜 𝓡 code.env .Λ) #push code.function (code.unfolded 𝓤 H 𝓜 𝓡)
     (all-meets 𝓤 H (𝓖 .A) (givenOf 𝓤 H 𝓜 𝓖) (𝓜 .mem) (𝓡 .run) (tablesOf 𝓤 H 𝓜 (tables 𝓤 H 𝓜 𝓡 code.env))
     (cited 𝓤 H (Begin 𝓤 H (𝓖 .A) (𝓜 .mem) (𝓡 .run)) 𝓜 𝓡 code.env #begin begin-def.routine code.calls-push-entries·ends·begin (begin-met.met 𝓤 H 𝓜 𝓖 𝓡))
-    (cited 𝓤 H (Each 𝓤 H (𝓖 .A) (𝓜 .mem) (𝓡 .run)) 𝓜 𝓡 code.env #each each-def.routine code.calls-pushes·passes·each (each-met.met 𝓤 H 𝓜 𝓖 𝓡))
-    (cited 𝓤 H (Search 𝓤 H (𝓖 .A) (𝓜 .mem) (𝓡 .run)) 𝓜 𝓡 code.env #search search-def.routine code.calls-pushes·passes·search (search-met.met 𝓤 H 𝓜 𝓖 𝓡))
-    (cited 𝓤 H (Rise 𝓤 H (𝓖 .A) (𝓜 .mem) (𝓡 .run)) 𝓜 𝓡 code.env #rise rise-def.routine code.calls-pushes·passes·rise (rise-met.met 𝓤 H 𝓜 𝓖 𝓡))
+    (cited 𝓤 H (Each 𝓤 H (𝓖 .A) (𝓜 .mem) (𝓡 .run)) 𝓜 𝓡 code.env #each each-def.routine code.calls-passes·each (each-met.met 𝓤 H 𝓜 𝓖 𝓡))
+    (cited 𝓤 H (Search 𝓤 H (𝓖 .A) (𝓜 .mem) (𝓡 .run)) 𝓜 𝓡 code.env #search search-def.routine code.calls-passes·search (search-met.met 𝓤 H 𝓜 𝓖 𝓡))
+    (cited 𝓤 H (Rise 𝓤 H (𝓖 .A) (𝓜 .mem) (𝓡 .run)) 𝓜 𝓡 code.env #rise rise-def.routine code.calls-passes·rise (rise-met.met 𝓤 H 𝓜 𝓖 𝓡))
     (cited 𝓤 H (Sweep 𝓤 H (𝓖 .A) (𝓜 .mem) (𝓡 .run)) 𝓜 𝓡 code.env #sweep sweep-def.routine code.calls-pushes·levels·sweep (sweep-met.met 𝓤 H 𝓜 𝓖 𝓡))
     (cited 𝓤 H (Finish 𝓤 H (𝓖 .A) (𝓜 .mem) (𝓡 .run)) 𝓜 𝓡 code.env #finish finish-def.routine code.calls-push-entries·ends·finish (finish-met.met 𝓤 H 𝓜 𝓖 𝓡)))

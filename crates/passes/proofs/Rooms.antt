@@ -28,7 +28,7 @@ use denote.Slice.{sliceVal, MutSlice, Room, finally}
 use denote.Struct.Steps.{spelt}
 use denote.Steps.{only, owned}
 use borrow.Rule.Slice.Shared.{parts-cells}
-use Rattle.pushes.proofs.Values.{word}
+use Rattle.passes.proofs.Values.{word}
 
 -- the machine value of n zeros
 abbrev pub zerosVal : ℕ → Val

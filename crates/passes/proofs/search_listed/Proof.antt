@@ -4,10 +4,10 @@ use Prim.Native.Nat.{ℕ, _-_}
 use native.Mathlib.Omega.{arith}
 use lib.ListN.{length-replicate}
 use borrow.Author.Needs.{needs}
 use Rattle.pushes.specs.Listed.{listed}
-use Rattle.pushes.proofs.Searching.{Reached, search-begins, search-asks, search-next, search-ends}
-use Rattle.pushes.proofs.passes.search_listed.Statement.{statement}
-use Rattle.pushes.proofs.passes.search_listed.Tie as tie
+use Rattle.passes.proofs.Searching.{Reached, search-begins, search-asks, search-next, search-ends}
+use Rattle.passes.proofs.search_listed.Statement.{statement}
+use Rattle.passes.proofs.search_listed.Tie as tie
 
 abbrev Inv-loop : tie.InvT-loop
 Inv-loop set numbers end phase₀ sum₀ phase sum = Reached set (listed numbers) sum₀ phase sum

@@ -1,16 +1,17 @@
-// Passes over the records of a push: of a slice of records, or of a list of numbers, seven for each.
+// Passes over the records of a push: of a slice of records, or of a list of numbers, seven for each. Every function presumes what the push has
+// tested before.
 ghost use mathlib.Core.Path.{_≡_};
 ghost use Prim.Native.Nat.{_/_};
 ghost use lib.ListN.{length, replicate};
 ghost use Rattle.repeats.specs.Maps.{mapWords};
 ghost use Rattle.pushes.specs.Listed.{listed};
 ghost use Rattle.pushes.specs.Passes.{pass, Going, Rising, eachOf, searchOf, levelsOf};
-use crate::levels;
-use crate::listing;
-use crate::record::Record;
-use crate::steps;
-use crate::tally::Tally;
 use parameters::ParameterSet;
+use pushes::Record;
+use pushes::levels;
+use pushes::listing;
+use pushes::steps;
+use pushes::tally::Tally;
 
 // The phases: what a pass does with each record. From the last on, it searches a window of places each.
 pub const TEST: u64 = 0;

@@ -1,17 +1,17 @@
 -- The loop keeps what that of `each` keeps by this phase, over the records of the list.
 use Prim.Native.Nat.{_-_}
 use native.Mathlib.Omega.{arith}
 use Rattle.pushes.specs.Passes.{stepOf}
-use Rattle.pushes.proofs.Turns.{Reached, listed-none, listed-asks, listed-next, listed-all}
+use Rattle.passes.proofs.Turns.{Reached, listed-none, listed-asks, listed-next, listed-all}
 use Rattle.pushes.specs.Listed.{listed}
-use Rattle.pushes.proofs.passes.mark_listed.Statement.{statement}
-use Rattle.pushes.proofs.passes.mark_listed.Tie as tie
+use Rattle.passes.proofs.test_listed.Statement.{statement}
+use Rattle.passes.proofs.test_listed.Tie as tie
 
 abbrev Inv-loop : tie.InvT-loop
-Inv-loop set store₀ numbers count i₀ sum₀ store i sum = Reached set 1 (listed numbers) sum₀ store₀ i sum store
+Inv-loop set seen₀ numbers count i₀ sum₀ seen i sum = Reached set 0 (listed numbers) sum₀ seen₀ i sum seen
 
 abbrev μ-loop : tie.MeasureT-loop
-μ-loop set store₀ numbers count i₀ sum₀ store i sum = count - i
+μ-loop set seen₀ numbers count i₀ sum₀ seen i sum = count - i
 
 loop-holds : tie.Need-loop-holds Inv-loop μ-loop
 loop-holds c = listed-none _ _ _ _ _ (c .before .before .pre)
@@ -19,8 +19,8 @@ loop-holds c = listed-none _ _ _ _ _ (c .before .before .pre)
 record-at-requires : tie.Need-record-at-requires Inv-loop μ-loop
 record-at-requires c κs = omega (arith, c .loop-test .taken)
 
-mark-item-requires : tie.Need-mark-item-requires Inv-loop μ-loop
-mark-item-requires c κs = let l = c .before .before in listed-asks _ _ _ _ _ _ _ _ (l .before .loop .inv) (omega (arith, l .loop-test .taken))
+test-record-requires : tie.Need-test-record-requires Inv-loop μ-loop
+test-record-requires c κs = let l = c .before .before in listed-asks _ _ _ _ _ _ _ _ (l .before .loop .inv) (omega (arith, l .loop-test .taken))
 
 add-i : tie.Need-add-i Inv-loop μ-loop
 add-i c = omega arith
@@ -34,7 +34,7 @@ loop-again c =
     let k = c .before .before in
     let r = k .before .before in
     let l = r .before .before in
-    listed-next _ _ _ _ _ _ _ _ (l .loop .inv) (omega (arith, r .before .loop-test .taken)) _ _ (rw (r .record-at .ensures) at (k .mark-item .ensures)) (k .mark-item .kept .1 .0)
+    listed-next _ _ _ _ _ _ _ _ (l .loop .inv) (omega (arith, r .before .loop-test .taken)) _ _ (rw (r .record-at .ensures) at (k .test-record .ensures)) (k .test-record .kept .1 .0)
 
 same-length : tie.Need-same-length Inv-loop μ-loop
 same-length c = c .before .loop .inv .long
@@ -42,15 +42,15 @@ same-length c = c .before .loop .inv .long
 returns : tie.Need-returns Inv-loop μ-loop
 returns c = listed-all _ _ _ _ _ _ _ _ (c .before .loop .inv) (omega (arith, c .loop-test .left))
 
-pub mark-listed-spec : {M : Type 1} → statement M
-mark-listed-spec =
+pub test-listed-spec : {M : Type 1} → statement M
+test-listed-spec =
     tie.close
     (tie.spec
     Inv-loop
     μ-loop
     loop-holds
     record-at-requires
-    mark-item-requires
+    test-record-requires
     add-i
     loop-less
     loop-again

@@ -50,25 +50,25 @@ use denote.Exit.{yes as kept}
 use Rattle.parameters.specs.declared.ParameterSet.{ParameterSet}
 use Rattle.parameters.proofs.ParameterSet as P
 use Rattle.parameters.proofs.ParameterSet.Laws as P′
 use Rattle.pushes.specs.declared.record.Record.{Record}
 use Rattle.pushes.specs.declared.tally.Tally.{Tally}
 use Rattle.pushes.specs.Passes.{pass, Going, stepOf, eachOf}
-use Rattle.pushes.proofs.Turns.{blank, Reached, reached-none, step-asks, reached-next, reached-all}
-use Rattle.pushes.proofs.Lending.{LentMut, lends-mut, mut-back}
-use Rattle.pushes.proofs.Values.{R, tv, pv, word, storeTy, recordsTy}
+use Rattle.passes.proofs.Turns.{blank, Reached, reached-none, step-asks, reached-next, reached-all}
+use Rattle.passes.proofs.Lending.{LentMut, lends-mut, mut-back}
+use Rattle.passes.proofs.Values.{R, tv, pv, word, storeTy, recordsTy}
 use Rattle.pushes.proofs.record.Record as T
 use Rattle.pushes.proofs.record.Record.Laws as T′
 use Rattle.pushes.proofs.tally.Tally as Y
 use Rattle.pushes.proofs.tally.Tally.Laws as Y′
 use Rattle.pushes.proofs.steps.step as one
 use Rattle.pushes.proofs.steps.step.Symbol as one-def
 use Rattle.pushes.proofs.steps.step.Symbol.{name as #step}
 use Rattle.pushes.proofs.steps.step.Met as one-met
-use Rattle.pushes.proofs.passes.each as all
-use Rattle.pushes.proofs.passes.each.Key.{name as #each}
-use Rattle.pushes.proofs.passes.each.Statement as stated
-use Rattle.pushes.proofs.passes.each.Code as code
-use Rattle.pushes.proofs.passes.each.Code.Mir as mirs
+use Rattle.passes.proofs.each as all
+use Rattle.passes.proofs.each.Key.{name as #each}
+use Rattle.passes.proofs.each.Statement as stated
+use Rattle.passes.proofs.each.Code as code
+use Rattle.passes.proofs.each.Code.Mir as mirs
 
 -- the function with its locals' types written out
 abbrev fn : Fn

@@ -1,10 +1,10 @@
 -- The loop keeps what that of `each` keeps, over the records of the list.
 use Prim.Native.Nat.{_-_}
 use native.Mathlib.Omega.{arith}
-use Rattle.pushes.proofs.Turns.{Reached, listed-none, listed-asks, listed-next, listed-all}
+use Rattle.passes.proofs.Turns.{Reached, listed-none, listed-asks, listed-next, listed-all}
 use Rattle.pushes.specs.Listed.{listed}
-use Rattle.pushes.proofs.passes.each_listed.Statement.{statement}
-use Rattle.pushes.proofs.passes.each_listed.Tie as tie
+use Rattle.passes.proofs.each_listed.Statement.{statement}
+use Rattle.passes.proofs.each_listed.Tie as tie
 
 abbrev Inv-loop : tie.InvT-loop
 Inv-loop set buffer₀ numbers phase count i₀ sum₀ buffer i sum = Reached set phase (listed numbers) sum₀ buffer₀ i sum buffer

@@ -50,31 +50,31 @@ use denote.Exit.{yes as kept}
 use Rattle.parameters.specs.declared.ParameterSet.{ParameterSet}
 use Rattle.parameters.proofs.ParameterSet as P
 use Rattle.parameters.proofs.ParameterSet.Laws as P′
 use Rattle.pushes.specs.declared.record.Record.{Record}
 use Rattle.pushes.specs.declared.tally.Tally.{Tally}
 use Rattle.pushes.specs.Passes.{pass, Going, Rising, Risen, eachOf, byRecords, nextOf, levelsOf}
-use Rattle.pushes.proofs.Ranks.{Reached, levels-begin, level-asks, next-asks, level-next, levels-fit, levels-end}
-use Rattle.pushes.proofs.Lending.{LentMut, lends-mut, mut-back}
-use Rattle.pushes.proofs.Values.{R, tv, pv, word, storeTy, recordsTy}
+use Rattle.passes.proofs.Rising.{Reached, levels-begin, level-asks, next-asks, level-next, levels-fit, levels-end}
+use Rattle.passes.proofs.Lending.{LentMut, lends-mut, mut-back}
+use Rattle.passes.proofs.Values.{R, tv, pv, word, storeTy, recordsTy}
 use Rattle.pushes.proofs.tally.Tally as Y
 use Rattle.pushes.proofs.tally.Tally.Laws as Y′
 use Rattle.pushes.proofs.levels.by_records as end-of
 use Rattle.pushes.proofs.levels.by_records.Symbol as end-def
 use Rattle.pushes.proofs.levels.by_records.Symbol.{name as #end}
 use Rattle.pushes.proofs.levels.by_records.Met as end-met
 use Rattle.pushes.proofs.levels.next as next
 use Rattle.pushes.proofs.levels.next.Symbol as next-def
 use Rattle.pushes.proofs.levels.next.Symbol.{name as #next}
 use Rattle.pushes.proofs.levels.next.Met as next-met
-use Rattle.pushes.proofs.passes.each as each
-use Rattle.pushes.proofs.passes.each.Symbol as each-def
-use Rattle.pushes.proofs.passes.each.Symbol.{name as #each}
-use Rattle.pushes.proofs.passes.each.Met as each-met
-use Rattle.pushes.proofs.passes.rise as all
-use Rattle.pushes.proofs.passes.rise.Key.{name as #rise}
-use Rattle.pushes.proofs.passes.rise.Statement as stated
-use Rattle.pushes.proofs.passes.rise.Code as code
-use Rattle.pushes.proofs.passes.rise.Code.Mir as mirs
+use Rattle.passes.proofs.each as each
+use Rattle.passes.proofs.each.Symbol as each-def
+use Rattle.passes.proofs.each.Symbol.{name as #each}
+use Rattle.passes.proofs.each.Met as each-met
+use Rattle.passes.proofs.rise as all
+use Rattle.passes.proofs.rise.Key.{name as #rise}
+use Rattle.passes.proofs.rise.Statement as stated
+use Rattle.passes.proofs.rise.Code as code
+use Rattle.passes.proofs.rise.Code.Mir as mirs
 
 -- the function with its locals' types written out
 abbrev fn : Fn
@@ -382,5 +382,5 @@ rise-spec 𝓤 H 𝓜 𝓖 𝓡 =
     (tables 𝓤 H 𝓜 𝓡 code.env .C) (tables 𝓤 H 𝓜 𝓡 code.env .Λ) #rise code.function (code.unfolded 𝓤 H 𝓜 𝓡)
     (all-meets 𝓤 H (𝓖 .A) (givenOf 𝓤 H 𝓜 𝓖) (𝓜 .mem) (𝓡 .run) (tablesOf 𝓤 H 𝓜 (tables 𝓤 H 𝓜 𝓡 code.env))
     (cited 𝓤 H (End 𝓤 H (𝓖 .A) (𝓜 .mem) (𝓡 .run)) 𝓜 𝓡 code.env #end end-def.routine code.calls-pushes·levels·by-records (end-met.met 𝓤 H 𝓜 𝓖 𝓡))
-    (cited 𝓤 H (Each 𝓤 H (𝓖 .A) (𝓜 .mem) (𝓡 .run)) 𝓜 𝓡 code.env #each each-def.routine code.calls-pushes·passes·each (each-met.met 𝓤 H 𝓜 𝓖 𝓡))
+    (cited 𝓤 H (Each 𝓤 H (𝓖 .A) (𝓜 .mem) (𝓡 .run)) 𝓜 𝓡 code.env #each each-def.routine code.calls-passes·each (each-met.met 𝓤 H 𝓜 𝓖 𝓡))
     (cited 𝓤 H (Next 𝓤 H (𝓖 .A) (𝓜 .mem) (𝓡 .run)) 𝓜 𝓡 code.env #next next-def.routine code.calls-pushes·levels·next (next-met.met 𝓤 H 𝓜 𝓖 𝓡)))

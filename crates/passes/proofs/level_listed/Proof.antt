@@ -2,11 +2,11 @@
 use Prim.Native.Nat.{_-_}
 use native.Mathlib.Omega.{arith}
 use borrow.Author.Needs.{needs}
 use Rattle.pushes.specs.Listed.{recordAt, listed}
 use Rattle.pushes.specs.Passes.{stepOf}
-use Rattle.pushes.proofs.Turns.{Reached, listed-none, listed-asks, listed-next, listed-all}
-use Rattle.pushes.proofs.passes.level_listed.Statement.{statement}
-use Rattle.pushes.proofs.passes.level_listed.Tie as tie
+use Rattle.passes.proofs.Turns.{Reached, listed-none, listed-asks, listed-next, listed-all}
+use Rattle.passes.proofs.level_listed.Statement.{statement}
+use Rattle.passes.proofs.level_listed.Tie as tie
 
 abbrev Inv-loop : tie.InvT-loop
 Inv-loop set store₀ numbers count i₀ sum₀ store i sum = Reached set 2 (listed numbers) sum₀ store₀ i sum store

@@ -6,13 +6,13 @@ use native.Mathlib.Omega.{arith}
 use lib.ListN.{length}
 use borrow.Author.Needs.{needs}
 use Rattle.parameters.specs.declared.ParameterSet.{ParameterSet}
 use Rattle.pushes.specs.declared.tally.Tally.{Tally}
 use Rattle.pushes.specs.Listed.{listed}
 use Rattle.pushes.specs.Passes.{Going, Rising}
 use Rattle.pushes.proofs.Listed.{listed-count}
-use Rattle.pushes.proofs.Ranks.{Reached, levels-begin, level-asks, next-asks, level-next, levels-end}
-use Rattle.pushes.proofs.passes.rise_listed.Statement.{statement}
-use Rattle.pushes.proofs.passes.rise_listed.Tie as tie
+use Rattle.passes.proofs.Rising.{Reached, levels-begin, level-asks, next-asks, level-next, levels-end}
+use Rattle.passes.proofs.rise_listed.Statement.{statement}
+use Rattle.passes.proofs.rise_listed.Tie as tie
 
 abbrev Inv-loop : tie.InvT-loop
 Inv-loop set store₀ numbers end level₀ sum₀ store level sum = Reached set (listed numbers) sum₀ store₀ level sum store
