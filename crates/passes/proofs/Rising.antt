@@ -23,8 +23,8 @@ use Rattle.marks.specs.Marks.{mark, Rank}
 use Rattle.pushes.specs.declared.record.Record.{Record}
 use Rattle.pushes.specs.declared.tally.Tally.{Tally}
 use Rattle.pushes.specs.Passes.{Pass, pass, Going, Rising, Risen, mayWrite, ranked, counting, wrote, riseOf, stepOf, eachOf, byRecords, nextOf, upwards, levelsUpTo, levelsOf, roomOf}
-use Rattle.pushes.proofs.Records.{one-at-most}
-use Rattle.pushes.proofs.Ranks.{rise-unrefused, some-level, first-under, next-before, next-under}
+use Rattle.pushes.proofs.Records.{rise-unrefused, one-at-most}
+use Rattle.pushes.proofs.Ranks.{some-level, first-under, next-before, next-under}
 
 -- ---- a pass over a level
 

@@ -1,18 +1,19 @@
 -- What the loop over the records keeps: the passes over what is left give what the pass over all gives.
 use mathlib.Core.Path.{_≡_, refl, sym, ap, subst, _∙_}
+use mathlib.Core.Bool.{true, false}
 use mathlib.Core.List.{List, [], _∷_}
-use Prim.Native.Nat.{ℕ, suc, _+_, _-_, _/_, _≤_, _<_}
+use Prim.Native.Nat.{ℕ, suc, _+_, _*_, _-_, _/_, _≤_, _<_}
 use native.Mathlib.Nat.{sub-zero}
 use native.Mathlib.Numerals.{add-one}
 use native.Mathlib.Omega.{arith}
-use lib.ListN.{length, getD, drop, drop-of-length-le}
+use lib.ListN.{length, getD, take, drop, drop-of-length-le}
 use lib.Seq.{drop-cons}
 use Rattle.parameters.specs.declared.ParameterSet.{ParameterSet}
 use Rattle.pushes.specs.declared.record.Record.{Record}
 use Rattle.pushes.specs.declared.tally.Tally.{Tally}
 use Rattle.pushes.specs.Listed.{recordAt, listed}
-use Rattle.pushes.specs.Passes.{Pass, pass, Going, stepOf, eachOf}
-use Rattle.pushes.proofs.Listed.{listed-count, listed-at}
+use Rattle.pushes.specs.Passes.{Pass, pass, Going, mayRise, markLeaf, markOf, stepOf, eachOf}
+use Rattle.pushes.proofs.Listed.{wordsPart, words-at, listed-count, listed-at}
 use Rattle.pushes.proofs.Records.{mark-tally, goes-on}
 
 -- stands where a list has no record
@@ -90,10 +91,27 @@ module _ (s : ParameterSet) (phase : ℕ) (ns : List ℕ) (t₀ : Tally) (xs : L
     pub listed-all : length ns / 7 ≤ i → (t ≡ eachOf s phase (listed ns) (pass t₀ xs) .tally) × (zs ≡ eachOf s phase (listed ns) (pass t₀ xs) .buffer)
     listed-all l = reached-all s phase (listed ns) t₀ xs i t zs reached (omega (arith, l, listed-count ns))
 
--- ----
+-- ---- leaves and marks
 
 -- a pass that marks leaves the tally
 pub marks-tally : (s : ParameterSet) (rs : List Record) (u : Pass) → eachOf s 1 rs u .tally ≡ u .tally
 unfolding eachOf stepOf
 marks-tally s [] u = refl
 marks-tally s (r ∷ rs) u = marks-tally s rs (stepOf s 1 r u) ∙ mark-tally s r u
+
+-- and after a refusal the store too
+pub marks-none : (s : ParameterSet) (rs : List Record) (t : Tally) (xs : List ℕ) → mayRise t ≡ false → eachOf s 1 rs (pass t xs) ≡ pass t xs
+unfolding eachOf stepOf markOf
+marks-none s [] t xs e = refl
+marks-none s (r ∷ rs) t xs e = ap (eachOf s 1 rs) (rw e refl) ∙ marks-none s rs t xs e
+
+-- Where nothing is refused, a leaf is read from the list itself.
+pub marks-next : {s : ParameterSet} (ns : List ℕ) {t : Tally} {xs : List ℕ} {i : ℕ} {zs : List ℕ} → Reached s 1 (listed ns) t xs i t zs → mayRise t ≡ true
+    → i < length ns / 7 → (zs′ : List ℕ) → zs′ ≡ markLeaf s (t .places) (getD ns (i * 7) 0) (take (s .«node_size») (wordsPart ns i)) zs
+    → length zs′ ≡ length zs → Reached s 1 (listed ns) t xs (i + 1) t zs′
+unfolding stepOf markOf recordAt
+marks-next {s} ns {t} {xs} {i} {zs} reached may l zs′ e =
+    listed-next s 1 ns t xs i t zs reached l t zs′ (
+      sym (mark-tally s (recordAt ns i) (pass t zs)),
+      e ∙ ap (λ (ws : List ℕ). markLeaf s (t .places) (getD ns (i * 7) 0) (take (s .«node_size») ws) zs) (sym (words-at ns i (omega (arith, l)))) ∙ sym (rw may refl),
+    )

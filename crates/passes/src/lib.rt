@@ -135,22 +135,25 @@ pub fn test_listed(set: ParameterSet, seen: &mut [u64], numbers: &[u64], tally: 
     sum
 }
 
-// By the phase that writes leaves and marks the nodes above them.
+// By the phase that writes leaves and marks the nodes above them: it leaves the tally, and a leaf is read where it stands.
 pub fn mark_listed(set: ParameterSet, store: &mut [u64], numbers: &[u64], tally: Tally) -> Tally
     requires { ⌜ Going set 1 (now store) tally (length (now numbers) / 7) ⌝ }
     ensures { λ r. ⌜ (r ≡ eachOf set 1 (listed (now (numbers .entry))) (pass tally (now (store .entry))) .tally)
         × (now (store .exit) ≡ eachOf set 1 (listed (now (numbers .entry))) (pass tally (now (store .entry))) .buffer) ⌝ }
 {
+    if !steps::may_rise(tally) {
+        return tally;
+    }
     let count = numbers.len() / 7;
     let mut i: usize = 0;
-    let mut sum = tally;
     while i < count {
-        let item = listing::record_at(numbers, i);
-        let next = steps::mark_item(set, store, sum, item);
-        sum = next;
+        let at = i * 7;
+        let start = at + 1;
+        let end = at + 7;
+        steps::mark_leaf(set, store, tally.places, numbers[at], &numbers[start..end]);
         i += 1;
     }
-    sum
+    tally
 }
 
 // By the phase that goes over a level: of the records the places alone are read.

@@ -1,12 +1,12 @@
 -- The passes together give what `Pushes` says, whatever the set, the store and the records.
 use mathlib.Core.Path.{_≡_, refl, sym, ap, subst, _∙_}
 use mathlib.Core.Logic.{_≢_, _⊎_, inl, inr}
-use mathlib.Core.Bool.{Bool, true, false, cond, not, _&&_, false≢true, and-false, and-comm}
+use mathlib.Core.Bool.{Bool, true, false, not, _&&_, false≢true, and-false, and-comm}
 use mathlib.Core.List.{List, [], _∷_, _++_, append-assoc}
 use Prim.Native.Nat.{ℕ, zero, suc, _+_, _*_, _^_, _≤_, _<_}
 use native.Mathlib.Nat.{mul-le-mul-right}
 use native.Mathlib.Omega.{arith}
-use lib.Dec.{lit<, eqb, ltb, leb}
+use lib.Dec.{lit<, eqb, leb}
 use lib.ListN.{length, replicate, length-replicate}
 use borrow.Author.Tests.{eq-eqb, ne-eqb, eqb-true, leb-true, not-false}
 use Rattle.modular.specs.Arithmetic.{allWords}
@@ -27,12 +27,12 @@ use Rattle.tree_entries.specs.Trees.{has}
 use Rattle.change_entries.specs.Replacement.{changedReply}
 use Rattle.pushes.specs.declared.record.Record.{Record}
 use Rattle.pushes.specs.declared.tally.Tally.{Tally}
-use Rattle.pushes.specs.Records.{leafOf, changesOf, placesOf, placesBelow, usedWords}
+use Rattle.pushes.specs.Records.{placesOf, placesBelow, usedWords}
 use Rattle.push_entries.specs.Pushes.{pushRefusals, pushing, pushReply, pushed}
-use Rattle.pushes.specs.Passes.{Pass, pass, keepable, testOf, isClear, mayWrite, mayRise, ranked, counting, markOf, finding, stepOf, eachOf, wanted, searchOf, levelsBy, byRecords, levelsUpTo, levelsOf, sweepOf, roomOf, Going, Rising, Sweeping}
+use Rattle.pushes.specs.Passes.{Pass, pass, keepable, testOf, isClear, mayRise, ranked, counting, finding, stepOf, eachOf, wanted, searchOf, levelsBy, byRecords, levelsUpTo, levelsOf, sweepOf, roomOf, Going, Rising, Sweeping}
 use Rattle.passes.proofs.Tests.{Tested, tested-all, Seen, seen-all}
 use Rattle.passes.proofs.Searching.{search-none, search-finds, search-only}
-use Rattle.passes.proofs.Turns.{marks-tally}
+use Rattle.passes.proofs.Turns.{marks-tally, marks-none}
 use Rattle.pushes.proofs.Ranks.{levels-few, by-few, before-inside}
 use Rattle.passes.proofs.Rising.{levels-at}
 use Rattle.push_entries.specs.Ends.{earlyRefusals, begun, beginOf, finishOf}
@@ -67,11 +67,6 @@ module _ (t : Tally) where
   abbrev Stopped : Type 0
   Stopped = (isClear t ≡ false) ⊎ (t .distinct ≡ false)
 
-  no-write : (q : ℕ) → Stopped → mayWrite t q ≡ false
-  unfolding mayWrite
-  no-write q (inl e) = ap (λ (b : Bool). b && (t .distinct && ltb q (t .places))) e
-  no-write q (inr e) = and-fails (isClear t) (t .distinct && ltb q (t .places)) (ap (λ (b : Bool). b && ltb q (t .places)) e)
-
   no-rise : Stopped → mayRise t ≡ false
   unfolding mayRise
   no-rise (inl e) = ap (λ (b : Bool). b && t .distinct) e
@@ -81,15 +76,6 @@ module _ (s : ParameterSet) where
   -- all that is written, from the leaves to the root
   abbrev pub write : List Record → Pass → Pass
   write rs u = sweepOf s (levelsOf s rs (eachOf s 1 rs u))
-
-  mark-stays : (r : Record) (u : Pass) → mayWrite (u .tally) (r .place) ≡ false → stepOf s 1 r u ≡ u
-  unfolding stepOf markOf
-  mark-stays r u e = rw e
-
-  mark-none : (rs : List Record) (t : Tally) (store : List ℕ) → Stopped t → eachOf s 1 rs (pass t store) ≡ pass t store
-  unfolding eachOf
-  mark-none [] t store S = refl
-  mark-none (r ∷ rs) t store S = ap (eachOf s 1 rs) (mark-stays r (pass t store) (no-write t (r .place) S)) ∙ mark-none rs t store S
 
   levels-none : (rs : List Record) (u : Pass) → mayRise (u .tally) ≡ false → levelsOf s rs u ≡ u
   unfolding levelsOf byRecords levelsUpTo
@@ -101,7 +87,7 @@ module _ (s : ParameterSet) where
 
   write-none : (rs : List Record) (t : Tally) (store : List ℕ) → Stopped t → write rs (pass t store) ≡ pass t store
   write-none rs t store S =
-      ap (λ (u : Pass). sweepOf s (levelsOf s rs u)) (mark-none rs t store S)
+      ap (λ (u : Pass). sweepOf s (levelsOf s rs u)) (marks-none s rs t store (no-rise t S))
       ∙ ap (sweepOf s) (levels-none rs (pass t store) (no-rise t S)) ∙ sweep-none (pass t store) (no-rise t S)
 
   -- a tally with an early refusal stays in the tests too

@@ -1,8 +1,8 @@
 -- What a push writes where nothing is refused: its leaves and marks, the levels by the records and all nodes above them are together the push
 -- that is defined.
 use mathlib.Core.Path.{_≡_, refl, sym, ap, _∙_}
-use mathlib.Core.Bool.{Bool, true, cond, _&&_}
-use mathlib.Core.List.{List, [], _∷_, _++_}
+use mathlib.Core.Bool.{Bool, true, cond}
+use mathlib.Core.List.{List, [], _∷_}
 use Prim.Native.Nat.{ℕ, zero, suc, _+_, _*_, _-_, _/_, _^_, _≤_}
 use native.Mathlib.Omega.{arith}
 use lib.Dec.{ltb}
@@ -28,7 +28,7 @@ use Rattle.marks.specs.Marks.{mark}
 use Rattle.pushes.specs.declared.record.Record.{Record}
 use Rattle.pushes.specs.declared.tally.Tally.{Tally}
 use Rattle.pushes.specs.Records.{leafOf, changesOf, placesOf, placesBelow, usedWords}
-use Rattle.pushes.specs.Passes.{Pass, pass, isClear, mayWrite, mayRise, ranked, counting, wrote, markOf, riseOf, stepOf, eachOf, byRecords, nextOf, upwards, levelsUpTo, levelsOf, sweepOf}
+use Rattle.pushes.specs.Passes.{Pass, pass, isClear, mayWrite, mayRise, ranked, counting, wrote, markLeaf, markOf, riseOf, stepOf, eachOf, byRecords, nextOf, upwards, levelsUpTo, levelsOf, sweepOf}
 use Rattle.pushes.proofs.Changes.{changes-places, changes-words, changes-fit}
 use Rattle.pushes.proofs.Ranks.{first-under, next-before, next-under}
 
@@ -59,13 +59,13 @@ module _ (s : ParameterSet) where
   -- the leaves and the marks
   mark-all : (rs : List Record) (t : Tally) (store : List ℕ) → Clear t → placesBelow (t .places) rs ≡ true
       → eachOf s 1 rs (pass t store) ≡ pass t (markAll S mark (s .height) (changesOf (s .«node_size») rs) store)
-  unfolding eachOf placesBelow changesOf markAll stepOf markOf
+  unfolding eachOf placesBelow changesOf markAll stepOf markOf markLeaf
   mark-all [] t store C e = refl
   mark-all (r ∷ rs) t store C e =
       let a = left-true (ltb (r .place) (t .places)) (placesBelow (t .places) rs) e in
       let b = right-true (ltb (r .place) (t .places)) (placesBelow (t .places) rs) e in
       let c : Change = record { place = r .place; leaf = leafOf (s .«node_size») r } in
-      ap (eachOf s 1 rs) (rw (clear-writes t (r .place) C a) refl) ∙ mark-all rs t (markChange S mark (s .height) c store) C b
+      ap (eachOf s 1 rs) (rw (clear-rises t C, a) refl) ∙ mark-all rs t (markChange S mark (s .height) c store) C b
 
   -- a level by the records
   level-all : (rs : List Record) (t : Tally) (store : List ℕ) → Clear t → placesBelow (t .places) rs ≡ true

@@ -2,20 +2,61 @@
 use mathlib.Core.Path.{_≡_, refl, sym, ap, subst, _∙_}
 use mathlib.Core.Bool.{Bool, true, false}
 use mathlib.Core.List.{List, [], _∷_, _++_}
-use Prim.Native.Nat.{ℕ, zero, suc, _+_, _*_, _-_, _/_, _<_}
+use Prim.Native.Nat.{ℕ, zero, suc, _+_, _*_, _-_, _/_, _≤_, _<_}
 use native.Mathlib.Nat.{mul-div-cancel}
 use native.Mathlib.Omega.{arith}
 use lib.Dec.{ltb}
-use lib.ListN.{length, getD, take, drop, length-append, length-drop, List·getD-append}
-use lib.Seq.{take-length, getD-at, getD-drop, drop-drop, drop-at}
+use lib.ListN.{length, getD, take, drop, length-append, length-drop, take-append-drop, List·getD-append}
+use lib.Seq.{length-take-le, getD-at, getD-drop, drop-drop, drop-at}
 use borrow.Author.Tests.{ltb-true, ltb-false}
 use Rattle.pushes.specs.declared.record.Record.{Record}
 use Rattle.pushes.specs.Records.{SixWords}
 use Rattle.pushes.specs.Listed.{recordOf, recordAt, recordsOf, listed, flat}
 
--- a slice from i on, as its code takes it
-pub from-on : (ns : List ℕ) (i : ℕ) → take (length ns - i) (drop i ns) ≡ drop i ns
-from-on ns i = subst (λ (n : ℕ). take n (drop i ns) ≡ drop i ns) (length-drop i ns) (take-length (drop i ns))
+-- record i, number by number
+pub record-at : (ns : List ℕ) (i : ℕ)
+    → record {
+      place = getD ns (i * 7) 0;
+      words = getD ns (i * 7 + 1) 0 ∷ getD ns (i * 7 + 2) 0 ∷ getD ns (i * 7 + 3) 0 ∷ getD ns (i * 7 + 4) 0 ∷ getD ns (i * 7 + 5) 0 ∷ getD ns (i * 7 + 6) 0 ∷ [];
+    } ≡ recordAt ns i
+unfolding recordAt
+record-at ns i =
+    λ k. record {
+      place = getD ns (i * 7) 0;
+      words =
+          word 0 (i * 7 + 1) (omega arith) k ∷ word 1 (i * 7 + 2) (omega arith) k ∷ word 2 (i * 7 + 3) (omega arith) k ∷ word 3 (i * 7 + 4) (omega arith) k
+          ∷ word 4 (i * 7 + 5) (omega arith) k ∷ word 5 (i * 7 + 6) (omega arith) k ∷ [];
+    }
+  where
+    word : (j n : ℕ) → n ≡ i * 7 + 1 + j → getD ns n 0 ≡ getD (drop (i * 7 + 1) ns) j 0
+    word j n e = ap (λ (n : ℕ). getD ns n 0) e ∙ sym (getD-drop (i * 7 + 1) ns j 0)
+
+-- six words, and what follows them
+six-words : (q : ℕ) (ws rest : List ℕ) → length ws ≡ 6 → recordOf q (ws ++ rest) ≡ record { place = q; words = ws }
+six-words q [] rest e = absurd (omega (arith, e))
+six-words q (a ∷ []) rest e = absurd (omega (arith, e))
+six-words q (a ∷ b ∷ []) rest e = absurd (omega (arith, e))
+six-words q (a ∷ b ∷ c ∷ []) rest e = absurd (omega (arith, e))
+six-words q (a ∷ b ∷ c ∷ d ∷ []) rest e = absurd (omega (arith, e))
+six-words q (a ∷ b ∷ c ∷ d ∷ f ∷ []) rest e = absurd (omega (arith, e))
+six-words q (a ∷ b ∷ c ∷ d ∷ f ∷ g ∷ []) rest e = refl
+six-words q (a ∷ b ∷ c ∷ d ∷ f ∷ g ∷ h ∷ ws) rest e = absurd (omega (arith, e))
+
+-- its words are the six numbers after its place, as a part of the list
+abbrev pub wordsPart : List ℕ → ℕ → List ℕ
+wordsPart ns i = take (i * 7 + 7 - (i * 7 + 1)) (drop (i * 7 + 1) ns)
+
+pub six-at : (ns : List ℕ) (i : ℕ) → i * 7 + 7 ≤ length ns → length (wordsPart ns i) ≡ 6
+six-at ns i l =
+    length-take-le (i * 7 + 7 - (i * 7 + 1)) (drop (i * 7 + 1) ns) (omega (arith, l, length-drop (i * 7 + 1) ns)) ∙ (omega arith)
+
+pub words-at : (ns : List ℕ) (i : ℕ) → i * 7 + 7 ≤ length ns → recordAt ns i .words ≡ wordsPart ns i
+unfolding recordAt
+words-at ns i l =
+    let q = getD ns (i * 7) 0 in
+    ap (λ (r : Record). r .words)
+    (ap (recordOf q) (sym (take-append-drop (i * 7 + 7 - (i * 7 + 1)) (drop (i * 7 + 1) ns)))
+    ∙ six-words q (wordsPart ns i) (drop (i * 7 + 7 - (i * 7 + 1)) (drop (i * 7 + 1) ns)) (six-at ns i l))
 
 module _ (ns : List ℕ) where
   count-of : (n : ℕ) → length (recordsOf ns n) ≡ n
@@ -74,17 +115,6 @@ records-next : (ns : List ℕ) (n : ℕ) → recordsOf ns (suc n) ≡ recordAt n
 unfolding recordsOf
 records-next ns zero = refl
 records-next ns (suc n) = λ j. records-next ns n j ++ (record-next ns n j ∷ [])
-
--- six words, and what follows them
-six-words : (q : ℕ) (ws rest : List ℕ) → length ws ≡ 6 → recordOf q (ws ++ rest) ≡ record { place = q; words = ws }
-six-words q [] rest e = absurd (omega (arith, e))
-six-words q (a ∷ []) rest e = absurd (omega (arith, e))
-six-words q (a ∷ b ∷ []) rest e = absurd (omega (arith, e))
-six-words q (a ∷ b ∷ c ∷ []) rest e = absurd (omega (arith, e))
-six-words q (a ∷ b ∷ c ∷ d ∷ []) rest e = absurd (omega (arith, e))
-six-words q (a ∷ b ∷ c ∷ d ∷ f ∷ []) rest e = absurd (omega (arith, e))
-six-words q (a ∷ b ∷ c ∷ d ∷ f ∷ g ∷ []) rest e = refl
-six-words q (a ∷ b ∷ c ∷ d ∷ f ∷ g ∷ h ∷ ws) rest e = absurd (omega (arith, e))
 
 pub flat-length : (rs : List Record) → SixWords rs → length (flat rs) ≡ length rs * 7
 unfolding flat

@@ -1,13 +1,12 @@
 -- The levels that are made by going over the records: how many they are, and the numbers of each.
 use mathlib.Core.Path.{_≡_, refl, sym, ap, _∙_}
-use mathlib.Core.Bool.{Bool, true, false, cond, _&&_}
+use mathlib.Core.Bool.{Bool, true, false, cond}
 use Prim.Native.Nat.{ℕ, zero, suc, _+_, _*_, _-_, _/_, _^_, _≤_, _<_}
 use native.Mathlib.Nat.{pow-suc, pow-zero, one-mul, one-le-pow, pow-le-pow-right, mul-le-mul, mul-div-cancel, div-le-self}
 use native.Mathlib.Omega.{arith}
-use lib.Dec.{eqb, leb}
+use lib.Dec.{leb}
 use lib.Pow.{pow-add}
-use borrow.Author.Tests.{eqb-true, le-leb, lt-leb}
-use Rattle.modular.proofs.Words.{left-true}
+use borrow.Author.Tests.{le-leb, lt-leb}
 use Rattle.refusals.specs.Table.{firstRefusal}
 use Rattle.parameters.specs.declared.ParameterSet.{ParameterSet}
 use Rattle.parameters.specs.ParameterSet.{setRefusals}
@@ -19,7 +18,7 @@ use Rattle.trees.proofs.Counts.{inner-few}
 use Rattle.trees.proofs.SetTrees as tree-of
 use Rattle.marks.specs.Marks.{Rank}
 use Rattle.pushes.specs.declared.tally.Tally.{Tally}
-use Rattle.pushes.specs.Passes.{pass, isClear, mayRise, levelsBy, byRecords}
+use Rattle.pushes.specs.Passes.{mayRise, levelsBy, byRecords}
 
 -- ---- how many they are
 
@@ -61,10 +60,6 @@ module _ {k h m n level nodes : ℕ} (K : Counting k h m n level nodes) where
       let z : h - level ≡ 0 = omega arith in
       let e : level + levelsBy k 0 nodes n ≡ levelsBy k h m n = ap (λ (i : ℕ). level + levelsBy k i nodes n) (sym z) ∙ K .left in
       omega arith
-
-pub rise-unrefused : (t : Tally) → mayRise t ≡ true → t .number ≡ 0
-unfolding mayRise isClear
-rise-unrefused t e = eqb-true (t .number) 0 (left-true (eqb (t .number) 0) (t .placed && t .words) (left-true (isClear t) (t .distinct) e))
 
 pub by-few : (t : Tally) → byRecords t ≤ t .levels
 unfolding byRecords

@@ -13,9 +13,9 @@ use Rattle.refusals.specs.Table.{firstRefusal}
 use Rattle.parameters.specs.declared.ParameterSet.{ParameterSet}
 use Rattle.parameters.specs.ParameterSet.{setRefusals}
 use Rattle.merkle.specs.Levels.{Shape}
-use Rattle.merkle.specs.Marks.{isMarked, markChange, rewriteMarked}
+use Rattle.merkle.specs.Marks.{isMarked, rewriteMarked}
 use Rattle.merkle.specs.Numbering.{writeNode}
-use Rattle.merkle.specs.Replacement.{Counted, Change}
+use Rattle.merkle.specs.Replacement.{Counted}
 use Rattle.repeats.specs.Maps.{window, mapWords, note}
 use Rattle.trees.specs.Shapes.{counted}
 use Rattle.trees.specs.SetTrees.{treeOf}
@@ -24,7 +24,7 @@ use Rattle.marks.specs.Marks.{mark}
 use Rattle.pushes.specs.declared.record.Record.{Record}
 use Rattle.pushes.specs.declared.tally.Tally.{Tally}
 use Rattle.pushes.specs.Records.{leafOf}
-use Rattle.pushes.specs.Passes.{Pass, pass, Going, oneMore, tested, testOf, isClear, mayWrite, wrote, markOf, riseOf, found, noteOf, stepOf, roomOf}
+use Rattle.pushes.specs.Passes.{Pass, pass, Going, oneMore, tested, testOf, isClear, mayWrite, mayRise, wrote, markLeaf, markOf, riseOf, found, noteOf, stepOf, roomOf}
 
 -- a leaf is among a record's six words
 pub leaf-in-record : (s : ParameterSet) → firstRefusal (setRefusals s) ≡ 0 → s .«node_size» ≤ 6
@@ -32,6 +32,10 @@ leaf-in-record s none =
     omega (arith, mul-le-mul-right (s .«node_size») (tree-of.valid-numbers s none .several), tree-of.width-is s none, tree-of.width-fits s none)
 
 -- ---- a write that is allowed
+
+pub rise-unrefused : (t : Tally) → mayRise t ≡ true → t .number ≡ 0
+unfolding mayRise isClear
+rise-unrefused t e = eqb-true (t .number) 0 (left-true (eqb (t .number) 0) (t .placed && t .words) (left-true (isClear t) (t .distinct) e))
 
 pub may-unrefused : (t : Tally) (q : ℕ) → mayWrite t q ≡ true → t .number ≡ 0
 unfolding mayWrite isClear
@@ -79,12 +83,9 @@ test-follows s r u = go (eqb (u .tally .number) 0) refl
 -- the leaves and the marks leave the tally
 pub mark-tally : (s : ParameterSet) (r : Record) (u : Pass) → markOf s r u .tally ≡ u .tally
 unfolding markOf
-mark-tally s r u = go (mayWrite (u .tally) (r .place))
+mark-tally s r u = go (mayRise (u .tally))
   where
-    marked : List ℕ
-    marked = markChange (treeOf s) mark (s .height) (record { place = r .place; leaf = leafOf (s .«node_size») r }) (u .buffer)
-
-    go : (b : Bool) → cond b (pass (u .tally) marked) u .tally ≡ u .tally
+    go : (b : Bool) → cond b (pass (u .tally) (markLeaf s (u .tally .places) (r .place) (leafOf (s .«node_size») r) (u .buffer))) u .tally ≡ u .tally
     go true = refl
     go false = refl
 

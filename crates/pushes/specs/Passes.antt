@@ -112,12 +112,18 @@ counting t n = ranked t (t .before) (t .under) n
 abbrev pub wrote : Tally → Counted → Pass
 wrote t c = pass (counting t (c .made)) (c .store)
 
--- a record's leaf written and the nodes above it marked, where nothing is refused
+-- nothing is refused
+unfoldable pub mayRise : Tally → Bool
+mayRise t = isClear t && t .distinct
+
+-- a leaf written if its place is one of n, and the nodes above it marked
+unfoldable pub markLeaf : ParameterSet → ℕ → ℕ → List ℕ → List ℕ → List ℕ
+markLeaf s n q leaf store = cond (ltb q n) (markChange (treeOf s) mark (s .height) (record { place = q; leaf = leaf }) store) store
+
+-- a record's, where nothing is refused
 unfoldable pub markOf : ParameterSet → Record → Pass → Pass
 markOf s r u =
-    cond (mayWrite (u .tally) (r .place))
-    (pass (u .tally) (markChange (treeOf s) mark (s .height) (record { place = r .place; leaf = leafOf (s .«node_size») r }) (u .buffer)))
-    u
+    cond (mayRise (u .tally)) (pass (u .tally) (markLeaf s (u .tally .places) (r .place) (leafOf (s .«node_size») r) (u .buffer))) u
 
 -- the node over a place rewritten if it is marked, on the level of the tally's numbers
 unfoldable pub riseOf : ParameterSet → ℕ → Pass → Pass
@@ -191,10 +197,6 @@ searchOf s rs t = windowsOf s rs (searchEnd t - 3) t
 unfoldable pub levelsBy : ℕ → ℕ → ℕ → ℕ → ℕ
 levelsBy k zero m n = 0
 levelsBy k (suc i) m n = cond (leb (m / k) n) 0 (suc (levelsBy k i (m / k) n))
-
--- nothing is refused
-unfoldable pub mayRise : Tally → Bool
-mayRise t = isClear t && t .distinct
 
 -- how many are made by going over the records
 unfoldable pub byRecords : Tally → ℕ

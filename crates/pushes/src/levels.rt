@@ -38,7 +38,7 @@ pub fn count(arity: u64, height: u64, places: u64, most: u64) -> u64
 pub fn by_records(tally: Tally) -> u64
     ensures { λ r. ⌜ r ≡ byRecords tally ⌝ }
 {
-    if !steps::both(steps::is_clear(tally), tally.distinct) {
+    if !steps::may_rise(tally) {
         return 0;
     }
     tally.levels
@@ -81,7 +81,7 @@ pub fn sweep(set: ParameterSet, store: &mut [u64], tally: Tally) -> Tally
     ensures { λ r. ⌜ (r ≡ sweepOf set (pass tally (now (store .entry))) .tally)
         × (now (store .exit) ≡ sweepOf set (pass tally (now (store .entry))) .buffer) ⌝ }
 {
-    if !steps::both(steps::is_clear(tally), tally.distinct) {
+    if !steps::may_rise(tally) {
         return tally;
     }
     let made = sweep_from(set, store, tally.places, tally.before, tally.made);

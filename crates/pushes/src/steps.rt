@@ -13,7 +13,7 @@ ghost use Rattle.trees.specs.Shapes.{counted};
 ghost use Rattle.trees.specs.SetTrees.{treeOf, dimensionsOf, leafCount, storeWords};
 ghost use Rattle.marks.specs.Marks.{mark, Rank};
 ghost use Rattle.repeats.specs.Maps.{mapWords};
-ghost use Rattle.pushes.specs.Passes.{pass, Going, aboveOf, freshOf, keeping, oneMore, testOf, isClear, mayWrite, markOf, riseOf, noteOf, stepOf, searchEnd};
+ghost use Rattle.pushes.specs.Passes.{pass, Going, aboveOf, freshOf, keeping, oneMore, testOf, isClear, mayWrite, mayRise, markLeaf, markOf, riseOf, noteOf, stepOf, searchEnd};
 use crate::record::Record;
 use crate::tally;
 use crate::tally::Tally;
@@ -120,14 +120,32 @@ fn may_write(tally: Tally, place: u64) -> bool
     both(is_clear(tally), both(tally.distinct, place < tally.places))
 }
 
-// A record's leaf is written, and the nodes above it are marked.
-fn mark_record(set: ParameterSet, store: &mut [u64], places: u64, place: u64, words: [u64; 6])
-    requires { ⌜ (firstRefusal (setRefusals set) ≡ 0) × (length (now store) ≡ storeWords set) × (places ≡ leafCount set) × (place < leafCount set) ⌝ }
-    ensures { λ r. ⌜ now (store .exit) ≡ markChange (treeOf set) mark (set .height) (record { place = place; leaf = take (set .«node_size») words }) (now (store .entry)) ⌝ }
+// Whether nothing is refused.
+pub fn may_rise(tally: Tally) -> bool
+    ensures { λ r. ⌜ r ≡ mayRise tally ⌝ }
 {
+    both(is_clear(tally), tally.distinct)
+}
+
+// A record's leaf, the first of its six words, is written if its place is there, and the nodes above it are marked.
+pub fn mark_leaf(set: ParameterSet, store: &mut [u64], places: u64, place: u64, words: &[u64])
+    requires { ⌜ (firstRefusal (setRefusals set) ≡ 0) × (length (now store) ≡ storeWords set) × (places ≡ leafCount set) × (length (now words) ≡ 6) ⌝ }
+    ensures { λ r. ⌜ now (store .exit) ≡ markLeaf set places place (take (set .«node_size») (now (words .entry))) (now (store .entry)) ⌝ }
+{
+    if places <= place {
+        return;
+    }
     let d = sets::dimensions(set);
     let end = d.node_size;
     marking::write_leaf(d, store, places as usize, place as usize, &words[..end]);
+}
+
+// The same of words by value, as a record has them.
+fn mark_record(set: ParameterSet, store: &mut [u64], places: u64, place: u64, words: [u64; 6])
+    requires { ⌜ (firstRefusal (setRefusals set) ≡ 0) × (length (now store) ≡ storeWords set) × (places ≡ leafCount set) ⌝ }
+    ensures { λ r. ⌜ now (store .exit) ≡ markLeaf set places place (take (set .«node_size») words) (now (store .entry)) ⌝ }
+{
+    mark_leaf(set, store, places, place, &words);
 }
 
 // The pass after the tests: a record's leaf is written where nothing is refused.
@@ -136,7 +154,7 @@ pub fn mark_item(set: ParameterSet, store: &mut [u64], tally: Tally, item: Recor
     ensures { λ r. ⌜ (r ≡ markOf set item (pass tally (now (store .entry))) .tally)
         × (now (store .exit) ≡ markOf set item (pass tally (now (store .entry))) .buffer) ⌝ }
 {
-    if !may_write(tally, item.place) {
+    if !may_rise(tally) {
         return tally;
     }
     let words = item.words;
