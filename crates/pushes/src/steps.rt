@@ -107,7 +107,7 @@ pub fn test_record(set: ParameterSet, seen: &mut [u64], tally: Tally, item: Reco
 }
 
 // Whether no refusal up to 12 applies.
-pub fn is_clear(tally: Tally) -> bool
+fn is_clear(tally: Tally) -> bool
     ensures { λ r. ⌜ r ≡ isClear tally ⌝ }
 {
     both(tally.number == 0, both(tally.placed, tally.words))
