@@ -1,5 +1,5 @@
 -- How many nodes there are above listed places.
-use mathlib.Core.Path.{_≡_}
+use mathlib.Core.Path.{_≡_, refl}
 use mathlib.Core.Bool.{true, cond}
 use mathlib.Core.List.{List, [], _∷_, map}
 use Prim.Native.Nat.{ℕ, suc, _*_, _^_, _≤_, _<_}
@@ -14,6 +14,11 @@ use Rattle.merkle.specs.Above.{once, aboveAt, nodesAbove}
 use Rattle.merkle.proofs.Lists.{sum-most, sum-ones}
 use Rattle.merkle.proofs.Members.{map-member, length-once, once-count}
 use Rattle.merkle.proofs.Openings.{over-below}
+
+-- with two leaves to a row and one row, the root alone stands above both leaves
+above-both : nodesAbove 2 1 (1 ∷ 0 ∷ []) ≡ 1
+unfolding nodesAbove aboveAt once member sum
+above-both = refl
 
 module _ (S : Shape) (G : Regular S) where
   open Shape S using (arity as k)

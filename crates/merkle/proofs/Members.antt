@@ -60,6 +60,11 @@ map-member f y (x ∷ xs) e = go (member-cases y (f x) (map f xs) e) (map-member
 
 -- ---- each number once
 
+-- a number that stands twice is there once
+twice-once : once (0 ∷ 0 ∷ []) ≡ 0 ∷ []
+unfolding once member
+twice-once = refl
+
 -- a number that stands further on is none more
 member-again : (y x : ℕ) (xs : List ℕ) → member x xs ≡ true → member y (x ∷ xs) ≡ member y xs
 member-again y x xs e = go (ℕ-discrete y x)
