@@ -17,7 +17,9 @@ use Rattle.poseidon2.specs.Compression.{compress}
 use Rattle.poseidon2.specs.Inverse.{subLists, seventhRoots, unexternal, uninternal, unfullRound, unraiseFirst, unpartialRound, unfullRounds, unpartialRounds, unpermuteAt, unpermute}
 use Rattle.poseidon2.specs.Statements.{Width, Words, State, AcceptedDiagonal, Undo, Invertible, Sizes, Claims}
 use Rattle.poseidon2.proofs.Words.{cons-eq, words-tail, words-more, words-map, words-take, addLists-length, addLists-words, subLists-length, subLists-words}
+use Rattle.poseidon2.proofs.Undo.{no-undo, undo-then, undo-same}
 use Rattle.poseidon2.proofs.Internal.{internal-state, undo-internal}
+use Rattle.poseidon2.proofs.Singular.{singular}
 use Rattle.poseidon2.proofs.External.{external-state, undo-external}
 use Rattle.poseidon2.proofs.Residues.{on-residues}
 
@@ -80,30 +82,6 @@ sizes {p} pos = record {
         width = length-take-le l (addLists p (permute p half rp D C xs) xs) (omega (arith, addLists-length p (permute p half rp D C xs) xs));
         words = words-take pos l (addLists p (permute p half rp D C xs) xs) (addLists-words pos (permute p half rp D C xs) xs);
       };
-}
-
--- ---- inverses put together
-
-no-undo : {p t : ℕ} → Undo p t (λ xs. xs) (λ xs. xs)
-no-undo = record { to = λ xs s. s; from = λ xs s. s; back = λ xs s. refl; forth = λ xs s. refl }
-
--- one after the other
-undo-then : {p t : ℕ} {f g h i : List ℕ → List ℕ} → Undo p t f g → Undo p t h i → Undo p t (λ xs. h (f xs)) (λ ys. g (i ys))
-undo-then {p} {t} {f} {g} {h} {i} u v = record {
-  to = λ xs s. v .to (f xs) (u .to xs s);
-  from = λ ys s. u .from (i ys) (v .from ys s);
-  back = λ xs s. ap g (v .back (f xs) (u .to xs s)) ∙ u .back xs s;
-  forth = λ ys s. ap h (u .forth (i ys) (v .from ys s)) ∙ v .forth ys s;
-}
-
--- maps that are the same on states
-undo-same : {p t : ℕ} {f g h i : List ℕ → List ℕ} → ((xs : List ℕ) → State p t xs → f xs ≡ h xs) → ((ys : List ℕ) → State p t ys → g ys ≡ i ys)
-    → Undo p t h i → Undo p t f g
-undo-same {p} {t} {f} {g} {h} {i} e k u = record {
-  to = λ xs s. subst (State p t) (sym (e xs s)) (u .to xs s);
-  from = λ ys s. subst (State p t) (sym (k ys s)) (u .from ys s);
-  back = λ xs s. ap g (e xs s) ∙ k (h xs) (u .to xs s) ∙ u .back xs s;
-  forth = λ ys s. ap f (k ys s) ∙ e (i ys) (u .from ys s) ∙ u .forth ys s;
 }
 
 -- ---- the steps
@@ -234,4 +212,9 @@ module _ {p : ℕ} (F : PrimeField p) where
   }
 
 pub claims : (p : ℕ) (F : PrimeField p) → Claims p F
-claims p F = record { invertible = invertible F; sizes = sizes (positive F); onResidues = on-residues p }
+claims p F = record {
+  invertible = invertible F;
+  singular = singular (prime-laws p F .inverses) (F .fermat .above);
+  sizes = sizes (positive F);
+  onResidues = on-residues p;
+}

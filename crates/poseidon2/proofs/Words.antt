@@ -3,7 +3,7 @@ use mathlib.Core.Path.{_≡_, refl, ap, ap₂}
 use mathlib.Core.List.{List, [], _∷_, _++_, map}
 use Prim.Native.Nat.{ℕ, zero, suc, _+_, _-_, _%_, _<_}
 use native.Mathlib.Nat.{mod-lt, mod-eq-of-lt, mod-mod}
-use lib.ListN.{length, getD, take, drop}
+use lib.ListN.{length, getD, take, drop, set}
 use Rattle.modular.specs.Arithmetic.{add, sub}
 use Rattle.modular.proofs.Congruence.{refl≈, add≈, mod≈}
 use Rattle.poseidon2.specs.Layers.{addLists}
@@ -72,6 +72,11 @@ module _ {p : ℕ} (pos : 0 < p) where
   pub words-append : (xs ys : List ℕ) → Words p xs → Words p ys → Words p (xs ++ ys)
   words-append [] ys w v = v
   words-append (x ∷ xs) ys w v = words-more (w .at 0) (words-append xs ys (words-tail w) v)
+
+  pub words-set : (xs : List ℕ) → Words p xs → (i x : ℕ) → x < p → Words p (set xs i x)
+  words-set [] w i x h = words-none
+  words-set (y ∷ xs) w zero x h = words-more h (words-tail w)
+  words-set (y ∷ xs) w (suc i) x h = words-more (w .at 0) (words-set xs (words-tail w) i x h)
 
   pub words-map : (f : ℕ → ℕ) → ((x : ℕ) → f x < p) → (xs : List ℕ) → Words p (map f xs)
   words-map f h [] = words-none

@@ -1,8 +1,10 @@
 -- The inverse permutation (Rules 7.2, 7.3). Each step undoes one of the permutation's, the last first. That they do is claimed in
 -- Statements.
+use mathlib.Core.Bool.{cond}
 use mathlib.Core.List.{List, [], _∷_, map}
 use Prim.Native.Nat.{ℕ, zero, suc, _+_, _*_, _-_, _%_}
-use lib.ListN.{length, getD, take, drop}
+use lib.Dec.{eqb}
+use lib.ListN.{length, getD, take, drop, set}
 use Rattle.modular.specs.Arithmetic.{sub, mul, inverse, seventhRoot}
 use Rattle.poseidon2.specs.Layers.{sum, dot, rowsTimes, blocks, joinBlocks, sumBlocks, addToEach}
 
@@ -45,11 +47,33 @@ unfoldable pub multiplesLess : ℕ → ℕ → List ℕ → List ℕ → List �
 multiplesLess p s es [] = []
 multiplesLess p s es (y ∷ ys) = mul p (getD es 0 0) (sub p y s) ∷ multiplesLess p s (drop 1 es) ys
 
--- M_I undone. With e_i the inverse of D_i, the sum of the words was Σ e_i y_i, divided by 1 + Σ e_i.
+-- How many words of a list are 0.
+unfoldable pub zeros : List ℕ → ℕ
+zeros [] = 0
+zeros (d ∷ D) = cond (eqb d 0) (1 + zeros D) (zeros D)
+
+-- The place of the first 0, and the length of a list that has none.
+unfoldable pub zeroPlace : List ℕ → ℕ
+zeroPlace [] = 0
+zeroPlace (d ∷ D) = cond (eqb d 0) 0 (1 + zeroPlace D)
+
+-- M_I undone where no D_i is 0, from the inverse e_i of each and the inverse k of 1 + Σ e_i: the sum of the words was Σ e_i y_i, k times.
+unfoldable pub uninternalBySum : ℕ → List ℕ → ℕ → List ℕ → List ℕ
+uninternalBySum p es k ys = multiplesLess p (dot es ys * k) es ys
+
+-- M_I undone where D_z alone is 0: y_z is the sum s of the words, so each other word is e_i times what s leaves of y_i, and word z is what
+-- they leave of s. (For 0 `inverse` gives 0, so word z counts nothing before it is put in.)
+unfoldable pub uninternalAtZero : ℕ → ℕ → List ℕ → List ℕ → List ℕ
+uninternalAtZero p z es ys =
+    let s = getD ys z 0 in
+    let others = multiplesLess p s es ys in
+    set others z (sub p s (sum others))
+
+-- M_I undone (Rules 7.3).
 unfoldable pub uninternal : ℕ → List ℕ → List ℕ → List ℕ
 uninternal p D ys =
     let es = inverses p D in
-    multiplesLess p (dot es ys * inverse p ((1 + sum es) % p)) es ys
+    cond (eqb (zeros D) 0) (uninternalBySum p es (inverse p ((1 + sum es) % p)) ys) (uninternalAtZero p (zeroPlace D) es ys)
 
 -- One list less another, word by word; what the second lacks counts as 0.
 unfoldable pub subLists : ℕ → List ℕ → List ℕ → List ℕ

@@ -1,6 +1,6 @@
 -- What is claimed of the permutation and its inverse, for every prime of modular's record PrimeField.
 use mathlib.Core.Path.{_≡_}
-use mathlib.Core.Logic.{_⊎_}
+use mathlib.Core.Logic.{_≢_, _⊎_}
 use mathlib.Core.List.{List}
 use Prim.Native.Nat.{ℕ, _+_, _%_, _<_, _≤_}
 use lib.ListN.{length, getD, take}
@@ -9,7 +9,7 @@ use Rattle.poseidon2.specs.Layers.{sum, external, sums, m4Blocks, intern
 use Rattle.poseidon2.specs.Rounds.{permute}
 use Rattle.poseidon2.specs.Compression.{compress}
 use Rattle.poseidon2.specs.Residues.{residues}
-use Rattle.poseidon2.specs.Inverse.{inverses, unexternal, uninternal, unpermute}
+use Rattle.poseidon2.specs.Inverse.{inverses, zeros, unexternal, uninternal, unpermute}
 
 -- The widths that a set may have (Rules 2.1).
 abbrev pub Width : ℕ → Type 0
@@ -24,12 +24,12 @@ pub record State (p t : ℕ) (xs : List ℕ) : Type 0 where
   pub width : length xs ≡ t
   pub words : Words p xs
 
--- What refusals 7 to 9 leave (Rules 2.3): D is t words, none of them 0, and 1 and their inverses do not add up to 0.
+-- What refusals 7 to 9 leave (Rules 2.3): D is t words, at most one of them 0, and where none is, 1 and their inverses do not add up to 0.
 pub record AcceptedDiagonal (p t : ℕ) (D : List ℕ) : Type 0 where
   pub width : length D ≡ t
   pub words : Words p D
-  pub nonzero : (i : ℕ) → i < t → 0 < getD D i 0
-  pub sumNonzero : 0 < (1 + sum (inverses p D)) % p
+  pub fewZeros : zeros D ≤ 1
+  pub sumNonzero : zeros D ≡ 0 → 0 < (1 + sum (inverses p D)) % p
 
 -- f and g take states of t words to states of t words, and each undoes the other.
 pub record Undo (p t : ℕ) (f g : List ℕ → List ℕ) : Type 0 where
@@ -45,6 +45,20 @@ pub record Invertible (p : ℕ) : Type 0 where
   pub internalLayer : (t : ℕ) (D : List ℕ) → AcceptedDiagonal p t D → Undo p t (internal p D) (uninternal p D)
   pub permutation : (t half rp : ℕ) (D C : List ℕ) → Width t → AcceptedDiagonal p t (take t D)
       → Undo p t (permute p half rp D C) (unpermute p half rp D C)
+
+-- Two different states of t words that f takes to one: so nothing undoes f.
+pub record Merges (p t : ℕ) (f : List ℕ → List ℕ) : Type 0 where
+  pub one : List ℕ
+  pub other : List ℕ
+  pub oneState : State p t one
+  pub otherState : State p t other
+  pub different : one ≢ other
+  pub sameImage : f one ≡ f other
+
+-- M_I where a D of t words is not accepted, for any t: two or more of the words are 0; or none is, and 1 and their inverses add up to 0.
+pub record Singular (p : ℕ) : Type 0 where
+  pub severalZeros : (t : ℕ) (D : List ℕ) → State p t D → 1 < zeros D → Merges p t (internal p D)
+  pub sumZero : (t : ℕ) (D : List ℕ) → State p t D → zeros D ≡ 0 → (1 + sum (inverses p D)) % p ≡ 0 → Merges p t (internal p D)
 
 -- The permutation of t numbers is t words, and their compression l words, whatever D and C are.
 pub record Sizes (p : ℕ) : Type 0 where
@@ -68,5 +82,6 @@ pub record SumsFirst (p : ℕ) : Type 0 where
 -- All of it, for every prime of the record.
 pub record Claims (p : ℕ) (F : PrimeField p) : Type 0 where
   pub invertible : Invertible p
+  pub singular : Singular p
   pub sizes : Sizes p
   pub onResidues : OnResidues p
