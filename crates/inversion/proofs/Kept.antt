@@ -1,25 +1,31 @@
 -- D by its places, and the inverse permutation from D's own inverses.
-use mathlib.Core.Path.{_≡_, refl, sym, ap, subst, _∙_}
+use mathlib.Core.Path.{_≡_, refl, sym, ap, ap₂, subst, _∙_}
+use mathlib.Core.Logic.{_≢_}
+use mathlib.Core.Bool.{Bool, true, false, cond}
 use mathlib.Core.List.{List, [], _∷_}
 use Prim.Native.Nat.{ℕ, zero, suc, _+_, _*_, _-_, _%_, _<_, _≤_}
+use native.Mathlib.Nat.{zero-add, mod-mod, mod-lt}
+use native.Mathlib.Decide.{ℕ-discrete}
 use native.Mathlib.Omega.{arith}
-use lib.ListN.{length, getD, take, drop, replicate, length-map, length-take}
-use lib.Seq.{getD-take, take-at}
+use lib.Dec.{eqb, ltb}
+use lib.ListN.{length, getD, take, drop, set, replicate, length-map, length-take}
+use lib.Seq.{getD-take, take-at, take-all, set-out}
+use borrow.Author.Tests.{eq-eqb, ne-eqb, lt-ltb, le-ltb}
 use Rattle.modular.specs.Arithmetic.{sub, mul, inverse}
 use Rattle.fields.specs.Prime.{prime}
 use Rattle.modular.specs.Congruence.{_≈⟨_⟩_}
+use Rattle.modular.proofs.Congruence.{eq≈, trans≈, mod≈}
 use Rattle.fields.proofs.Prime.{positive, prime-laws}
-use Rattle.poseidon2.specs.Layers.{sum}
-use Rattle.poseidon2.specs.Inverse.{inverses, multiplesLess, subLists, unexternal, uninternal, unpartialRound, unfullRounds, unpartialRounds, unpermuteAt, unpermute}
+use Rattle.poseidon2.specs.Layers.{sum, dot}
+use Rattle.poseidon2.specs.Inverse.{inverses, multiplesLess, zeros, zeroPlace, uninternalBySum, uninternalAtZero, uninternal, subLists, unexternal, unraiseFirst, unpartialRound, unfullRounds, unpartialRounds, unpermuteAt, unpermute}
 use Rattle.poseidon2.specs.Statements.{Words, AcceptedDiagonal}
 use Rattle.poseidon2.proofs.Words.{cons-eq, words-none, words-more, words-append, words-map}
+use Rattle.poseidon2.proofs.Zeros.{place-none, place-some, zeros-inverses, place-inverses}
+use Rattle.poseidon2.proofs.Internal.{multiplesLess-length}
 use Rattle.poseidon2.proofs.Rounds.{unpermute-at}
-use Rattle.inversion.specs.Kept.{keptInverses, totalInverse, uninternalBy, unpartialRoundBy, unpartialRoundsBy, unpermuteBy}
+use Rattle.inversion.specs.Kept.{keptInverses, totalInverse, oldSum, uninternalBy, unpartialRoundBy, unpartialRoundsBy, unpermuteBy}
 
 module _ {p t : ℕ} (D : List ℕ) (a : AcceptedDiagonal p t (take t D)) where
-  pub nonzero-at : (i : ℕ) → i < t → 0 < getD D i 0
-  nonzero-at i h = subst (λ (n : ℕ). 0 < n) (getD-take t D i 0 h) (a .nonzero i h)
-
   pub long-enough : t ≤ length D
   long-enough = omega (arith, length-take t D, a .width)
 
@@ -39,6 +45,14 @@ subLists-take p [] cs = refl
 subLists-take p (x ∷ xs) [] = refl
 subLists-take p (x ∷ xs) (c ∷ cs) = cons-eq refl (subLists-take p xs cs)
 
+-- no place before the end: no 0
+pub none-of : (es : List ℕ) → length es ≤ zeroPlace es → zeros es ≡ 0
+none-of es h = of (ℕ-discrete (zeros es) 0)
+  where
+    of : Dec (zeros es ≡ 0) → zeros es ≡ 0
+    of (yes e) = e
+    of (no o) = absurd (omega (arith, place-some es o))
+
 -- what is taken from each word may be any number with its residue
 pub multiplesLess-same : (p : ℕ) {s z : ℕ} → s ≈⟨ p ⟩ z → (es ys : List ℕ) → multiplesLess p s es ys ≡ multiplesLess p z es ys
 unfolding multiplesLess sub
@@ -46,13 +60,77 @@ multiplesLess-same p h es [] = refl
 multiplesLess-same p h es (y ∷ ys) =
     cons-eq (ap (λ (n : ℕ). mul p (getD es 0 0) ((y + (p - n)) % p)) (h .same)) (multiplesLess-same p h (drop 1 es) ys)
 
+-- what the code puts in the zero's place: a difference by a sum modulo p
+pub sub-sum : (s n total : ℕ) (st : List ℕ) → n ≡ length st → total ≡ (0 + sum (take n st)) % prime → sub prime s total ≡ sub prime s (sum st)
+unfolding sub
+sub-sum s n total st l e =
+    let all : 0 + sum (take n st) ≡ sum st = zero-add (sum (take n st)) ∙ ap sum (take-all n st (omega arith)) in
+    ap (λ (m : ℕ). (s + (prime - m % prime)) % prime) e
+    ∙ ap (λ (m : ℕ). (s + (prime - m)) % prime) (mod-mod (0 + sum (take n st)) prime ∙ ap (λ (m : ℕ). m % prime) all)
+
+module _ (z : ℕ) (es : List ℕ) (k : ℕ) (ys : List ℕ) where
+  pub sum-there : z < length ys → oldSum prime z es k ys ≡ getD ys z 0
+  unfolding oldSum
+  sum-there h = rw (lt-ltb z (length ys) h) refl
+
+  pub sum-made : length ys ≤ z → oldSum prime z es k ys ≡ dot es ys * k % prime
+  unfolding oldSum
+  sum-made h = rw (le-ltb z (length ys) h) refl
+
+  pub sum-word : Words prime ys → oldSum prime z es k ys < prime
+  unfolding oldSum
+  sum-word w = of (ltb z (length ys))
+    where
+      of : (b : Bool) → cond b (getD ys z 0) (dot es ys * k % prime) < prime
+      of true = w .at z
+      of false = mod-lt (dot es ys * k) positive
+
+  -- the old sum, the others by it, and what they leave of it in the zero's place: where there is none nothing is put
+  pub by-old-sum : (s : ℕ) (st : List ℕ) → z ≡ zeroPlace es → length es ≡ length ys → s ≡ oldSum prime z es k ys → st ≡ multiplesLess prime s es ys
+      → set st z (sub prime s (sum st)) ≡ uninternalBy prime es k ys
+  unfolding uninternalBy uninternalAtZero uninternalBySum
+  by-old-sum s st e l f g = of (ℕ-discrete (zeros es) 0)
+    where
+      of : Dec (zeros es ≡ 0) → set st z (sub prime s (sum st)) ≡ uninternalBy prime es k ys
+      of (no o) =
+          let here : s ≡ getD ys z 0 = f ∙ sum-there (omega (arith, place-some es o)) in
+          rw (ne-eqb (zeros es) 0 o)
+          (ap (λ (l : List ℕ). set l z (sub prime s (sum l))) g
+          ∙ ap₂ (λ (m n : ℕ). set (multiplesLess prime m es ys) n (sub prime m (sum (multiplesLess prime m es ys)))) (here ∙ ap (λ (n : ℕ). getD ys n 0) e) e)
+      of (yes n) =
+          let beyond : length ys ≤ z = omega (arith, place-none es n) in
+          let same : s ≈⟨ prime ⟩ dot es ys * k = trans≈ (eq≈ (f ∙ sum-made beyond)) (mod≈ (dot es ys * k)) in
+          rw (eq-eqb (zeros es) 0 n)
+          (set-out st z (sub prime s (sum st)) (omega (arith, ap length g ∙ multiplesLess-length prime s es ys)) ∙ g ∙ multiplesLess-same prime same es ys)
+
 -- ---- D's own inverses
 
-unpartialRounds-own : (p : ℕ) (D : List ℕ) (n : ℕ) (cs ys : List ℕ)
-    → unpartialRoundsBy p (inverses p D) (inverse p ((1 + sum (inverses p D)) % p)) n cs ys ≡ unpartialRounds p D n cs ys
-unfolding unpartialRoundsBy unpartialRoundBy unpartialRounds unpartialRound uninternalBy uninternal
-unpartialRounds-own p D zero cs ys = refl
-unpartialRounds-own p D (suc n) cs ys = ap (unpartialRound p D (getD cs 0 0)) (unpartialRounds-own p D n (drop 1 cs) ys)
+-- the inverse of 1 plus a list's inverses, and 0 where one of them is
+abbrev total : List ℕ → ℕ
+total es = cond (eqb (zeros es) 0) (inverse prime ((1 + sum es) % prime)) 0
+
+uninternal-own : (D ys : List ℕ) → Words prime D → uninternalBy prime (inverses prime D) (total (inverses prime D)) ys ≡ uninternal prime D ys
+unfolding uninternalBy uninternal
+uninternal-own D ys w = of (zeros D) refl
+  where
+    same : zeros (inverses prime D) ≡ zeros D
+    same = zeros-inverses (prime-laws .inverses) D w
+
+    of : (n : ℕ) → zeros D ≡ n → uninternalBy prime (inverses prime D) (total (inverses prime D)) ys ≡ uninternal prime D ys
+    of zero z = rw (eq-eqb (zeros (inverses prime D)) 0 (same ∙ z), eq-eqb (zeros D) 0 z) refl
+    of (suc n) z =
+        let some : zeros D ≢ 0 = λ e. absurd (omega arith) in
+        rw (ne-eqb (zeros (inverses prime D)) 0 (λ e. some (sym same ∙ e)), ne-eqb (zeros D) 0 some)
+        (ap (λ (n : ℕ). uninternalAtZero prime n (inverses prime D) ys) (place-inverses (prime-laws .inverses) D w))
+
+unpartialRounds-own : (D : List ℕ) → Words prime D → (n : ℕ) (cs ys : List ℕ)
+    → unpartialRoundsBy prime (inverses prime D) (total (inverses prime D)) n cs ys ≡ unpartialRounds prime D n cs ys
+unfolding unpartialRoundsBy unpartialRoundBy unpartialRounds unpartialRound
+unpartialRounds-own D w zero cs ys = refl
+unpartialRounds-own D w (suc n) cs ys =
+    ap (unraiseFirst prime (getD cs 0 0))
+    (ap (uninternalBy prime (inverses prime D) (total (inverses prime D))) (unpartialRounds-own D w n (drop 1 cs) ys)
+    ∙ uninternal-own D (unpartialRounds prime D n (drop 1 cs) ys) w)
 
 module _ {t : ℕ} (D : List ℕ) (a : AcceptedDiagonal prime t (take t D)) where
   kept-take : take t (keptInverses prime t D) ≡ inverses prime (take t D)
@@ -68,8 +146,10 @@ module _ {t : ℕ} (D : List ℕ) (a : AcceptedDiagonal prime t (take t D)) wher
       zeros zero = words-none positive
       zeros (suc n) = words-more positive positive (zeros n)
 
-  pub kept-sum : 0 < (1 + sum (take t (keptInverses prime t D))) % prime
-  kept-sum = subst (λ (es : List ℕ). 0 < (1 + sum es) % prime) (sym kept-take) (a .sumNonzero)
+  pub kept-sum : zeros (take t (keptInverses prime t D)) ≡ 0 → 0 < (1 + sum (take t (keptInverses prime t D))) % prime
+  kept-sum z =
+      subst (λ (es : List ℕ). 0 < (1 + sum es) % prime) (sym kept-take)
+      (a .sumNonzero (sym (zeros-inverses (prime-laws .inverses) (take t D) (a .words)) ∙ sym (ap zeros kept-take) ∙ z))
 
   -- with them it is the inverse permutation
   pub kept-unpermute : (half rp : ℕ) (C ys : List ℕ) → length ys ≡ t
@@ -78,6 +158,6 @@ module _ {t : ℕ} (D : List ℕ) (a : AcceptedDiagonal prime t (take t D)) wher
   kept-unpermute half rp C ys l =
       let zs : List ℕ = unfullRounds prime t half (drop (t * half + rp) C) ys in
       ap (λ (xs : List ℕ). unexternal prime (unfullRounds prime t half C xs))
-      (ap (λ (es : List ℕ). unpartialRoundsBy prime es (inverse prime ((1 + sum es) % prime)) rp (drop (t * half) C) zs) kept-take
-      ∙ unpartialRounds-own prime (take t D) rp (drop (t * half) C) zs)
+      (ap (λ (es : List ℕ). unpartialRoundsBy prime es (total es) rp (drop (t * half) C) zs) kept-take
+      ∙ unpartialRounds-own (take t D) (a .words) rp (drop (t * half) C) zs)
       ∙ sym (unpermute-at prime t half rp D C ys l)

@@ -30,14 +30,14 @@ dot-suc (suc i) (e ∷ es) ys =
     second [] = refl
     second (y ∷ ys) = refl
 
--- 1 and the first i + 1 numbers, modulo p
-pub sum-more : (p i total : ℕ) (xs : List ℕ) → total ≡ (1 + sum (take i xs)) % p
-    → add p total (getD xs i 0) ≡ (1 + sum (take (i + 1) xs)) % p
+-- a start and the first i + 1 numbers, modulo p
+pub sum-more : (p start i total : ℕ) (xs : List ℕ) → total ≡ (start + sum (take i xs)) % p
+    → add p total (getD xs i 0) ≡ (start + sum (take (i + 1) xs)) % p
 unfolding add
-sum-more p i total xs e =
+sum-more p start i total xs e =
     ap (λ (n : ℕ). (n + getD xs i 0) % p) e
-    ∙ add≈ (mod≈ {p = p} (1 + sum (take i xs))) (refl≈ {a = getD xs i 0}) .same
-    ∙ ap (λ (n : ℕ). n % p) (add-assoc 1 (sum (take i xs)) (getD xs i 0) ∙ ap (λ (n : ℕ). 1 + n) (sym (sum-suc i xs) ∙ ap (λ (n : ℕ). sum (take n xs)) (sym (add-one i))))
+    ∙ add≈ (mod≈ {p = p} (start + sum (take i xs))) (refl≈ {a = getD xs i 0}) .same
+    ∙ ap (λ (n : ℕ). n % p) (add-assoc start (sum (take i xs)) (getD xs i 0) ∙ ap (λ (n : ℕ). start + n) (sym (sum-suc i xs) ∙ ap (λ (n : ℕ). sum (take n xs)) (sym (add-one i))))
 
 -- the first i + 1 products, modulo p
 pub dot-more : (p i total : ℕ) (es ys : List ℕ) → total ≡ dot (take i es) ys % p

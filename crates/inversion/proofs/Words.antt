@@ -1,16 +1,18 @@
 -- Sums, differences and products modulo prime, and lists of them, are words.
-use mathlib.Core.Path.{_≡_, refl, sym, ap, subst, _∙_}
+use mathlib.Core.Path.{_≡_, sym, subst, _∙_}
+use mathlib.Core.Bool.{Bool, true, false, cond}
 use mathlib.Core.List.{List, [], _∷_}
 use Prim.Native.Nat.{ℕ, zero, suc, _+_, _*_, _-_, _%_, _<_}
 use native.Mathlib.Nat.{mod-lt}
-use lib.ListN.{length, getD, take, drop, length-map}
+use lib.Dec.{eqb}
+use lib.ListN.{take, drop, length-map}
 use Rattle.modular.specs.Arithmetic.{add, sub, mul, seventhRoot}
 use Rattle.fields.specs.Prime.{prime}
 use Rattle.fields.proofs.Prime.{positive, prime-field, prime-laws}
-use Rattle.poseidon2.specs.Layers.{dot}
-use Rattle.poseidon2.specs.Inverse.{scaled, multiplesLess, seventhRoots, unexternal, unraiseFirst, unfullRound, unfullRounds}
+use Rattle.poseidon2.specs.Inverse.{scaled, zeros, zeroPlace, uninternalBySum, uninternalAtZero, seventhRoots, unexternal, unraiseFirst, unfullRound, unfullRounds}
 use Rattle.poseidon2.specs.Statements.{Width, Words, State}
 use Rattle.poseidon2.proofs.Words.{words-tail, words-none, words-more, words-map, subLists-length, subLists-words}
+use Rattle.poseidon2.proofs.Internal.{by-sum-state, at-zero-state}
 use Rattle.poseidon2.proofs.Rounds.{invertible}
 use Rattle.inversion.specs.Kept.{uninternalBy, unpartialRoundBy, unpartialRoundsBy}
 
@@ -45,19 +47,13 @@ unfullRound-state {t} {ys} cs w s =
     }
 
 -- M_I undone gives words, whatever the inverses are
-multiplesLess-length : (s : ℕ) (es ys : List ℕ) → length (multiplesLess prime s es ys) ≡ length ys
-unfolding multiplesLess
-multiplesLess-length s es [] = refl
-multiplesLess-length s es (y ∷ ys) = ap suc (multiplesLess-length s (drop 1 es) ys)
-
-multiplesLess-words : (s : ℕ) (es ys : List ℕ) → Words prime (multiplesLess prime s es ys)
-unfolding multiplesLess
-multiplesLess-words s es [] = words-none positive
-multiplesLess-words s es (y ∷ ys) = words-more positive (mul-word (getD es 0 0) (sub prime y s)) (multiplesLess-words s (drop 1 es) ys)
-
 pub uninternalBy-state : {t : ℕ} {ys : List ℕ} (es : List ℕ) (k : ℕ) → State prime t ys → State prime t (uninternalBy prime es k ys)
 unfolding uninternalBy
-uninternalBy-state {t} {ys} es k s = record { width = multiplesLess-length (dot es ys * k) es ys ∙ s .width; words = multiplesLess-words (dot es ys * k) es ys }
+uninternalBy-state {t} {ys} es k s = of (eqb (zeros es) 0)
+  where
+    of : (b : Bool) → State prime t (cond b (uninternalBySum prime es k ys) (uninternalAtZero prime (zeroPlace es) es ys))
+    of true = by-sum-state positive es k ys (s .width)
+    of false = at-zero-state positive (zeroPlace es) es ys (s .width)
 
 first-state : {t : ℕ} (c : ℕ) (ys : List ℕ) → State prime t ys → State prime t (unraiseFirst prime c ys)
 unfolding unraiseFirst

@@ -1,24 +1,30 @@
--- The inverse permutation that is handed, in the place of D, the inverse e_i of each D_i and the inverse k of 1 + Σ e_i: so a caller
--- of many inverts D once. With D's own inverses it is poseidon2's inverse permutation.
+-- The inverse permutation that is handed, in the place of D, the inverse e_i of each D_i, 0 for a 0, and the inverse k of 1 + Σ e_i: so a
+-- caller of many inverts D once. With D's own inverses it is poseidon2's inverse permutation.
+use mathlib.Core.Bool.{cond}
 use mathlib.Core.List.{List, _++_}
 use Prim.Native.Nat.{ℕ, zero, suc, _+_, _*_, _-_, _%_, _<_, _≤_}
-use lib.ListN.{getD, take, drop, replicate}
+use lib.Dec.{eqb, ltb}
+use lib.ListN.{length, getD, take, drop, replicate}
 use Rattle.modular.specs.Arithmetic.{inverse}
 use Rattle.poseidon2.specs.Layers.{sum, dot}
-use Rattle.poseidon2.specs.Inverse.{inverses, multiplesLess, unexternal, unraiseFirst, unfullRounds}
+use Rattle.poseidon2.specs.Inverse.{inverses, zeros, zeroPlace, uninternalBySum, uninternalAtZero, unexternal, unraiseFirst, unfullRounds}
 use Rattle.poseidon2.specs.Statements.{Width, State}
 
 -- The inverses of the first t words of D, and zeros up to twelve.
 unfoldable pub keptInverses : ℕ → ℕ → List ℕ → List ℕ
 keptInverses p t D = inverses p (take t D) ++ replicate (12 - t) 0
 
--- The inverse of 1 plus the first t of the inverses.
+-- The inverse of 1 plus the first t of the inverses, and 0 where one of these is 0: it is not used then.
 unfoldable pub totalInverse : ℕ → ℕ → List ℕ → ℕ
-totalInverse p t es = inverse p ((1 + sum (take t es)) % p)
+totalInverse p t es = cond (eqb (zeros (take t es)) 0) (inverse p ((1 + sum (take t es)) % p)) 0
 
--- M_I undone: the sum of the words was Σ e_i y_i, k times.
+-- The sum of the words before M_I, by the place z of the first e_i that is 0, or their number: y_z, or Σ e_i y_i, k times.
+unfoldable pub oldSum : ℕ → ℕ → List ℕ → ℕ → List ℕ → ℕ
+oldSum p z es k ys = cond (ltb z (length ys)) (getD ys z 0) (dot es ys * k % p)
+
+-- M_I undone: where no e_i is 0 no D_i is, and a D_z is 0 where e_z is.
 unfoldable pub uninternalBy : ℕ → List ℕ → ℕ → List ℕ → List ℕ
-uninternalBy p es k ys = multiplesLess p (dot es ys * k) es ys
+uninternalBy p es k ys = cond (eqb (zeros es) 0) (uninternalBySum p es k ys) (uninternalAtZero p (zeroPlace es) es ys)
 
 unfoldable pub unpartialRoundBy : ℕ → List ℕ → ℕ → ℕ → List ℕ → List ℕ
 unpartialRoundBy p es k c ys = unraiseFirst p c (uninternalBy p es k ys)

@@ -1,16 +1,39 @@
-// M_I undone on words, from the inverses of D and the inverse of 1 plus their sum.
+// M_I undone on words, from the inverses of D, 0 for a 0, and the inverse of 1 plus their sum.
 ghost use mathlib.Core.Path.{_≡_};
 ghost use Prim.Native.Nat.{_+_, _%_, _<_, _≤_};
-ghost use lib.ListN.{length, take};
+ghost use lib.ListN.{length, take, set};
+ghost use Rattle.modular.specs.Arithmetic.{sub, inverse};
 ghost use Rattle.fields.specs.Prime.{prime};
 ghost use Rattle.poseidon2.specs.Layers.{sum, dot};
-ghost use Rattle.poseidon2.specs.Inverse.{multiplesLess};
+ghost use Rattle.poseidon2.specs.Inverse.{zeros, zeroPlace, multiplesLess};
 ghost use Rattle.poseidon2.specs.Statements.{Words, AcceptedDiagonal};
-ghost use Rattle.inversion.specs.Kept.{keptInverses, totalInverse, uninternalBy};
+ghost use Rattle.inversion.specs.Kept.{keptInverses, totalInverse, oldSum, uninternalBy};
 use fields::difference;
-use fields::inverse;
 use fields::product;
 use fields::sum;
+
+// The place of the first 0 among the first numbers, or their count.
+pub fn zero_place(count: usize, numbers: &[u64]) -> usize
+    requires { ⌜ count ≤ length (now numbers) ⌝ }
+    ensures { λ r. ⌜ r ≡ zeroPlace (take count (now (numbers .entry))) ⌝ }
+{
+    let mut i = 0;
+    while i < count {
+        if numbers[i] == 0 {
+            return i;
+        }
+        i += 1;
+    }
+    count
+}
+
+// The inverse of a word, and 0 for 0, which the power gives that the inverse is.
+fn inverse_or_zero(x: u64) -> u64
+    requires { ⌜ x < prime ⌝ }
+    ensures { λ r. ⌜ r ≡ inverse prime x ⌝ }
+{
+    fields::power(x, fields::order() - 2)
+}
 
 // The inverses of the first words of D, and zeros beyond.
 pub fn kept_inverses(width: usize, diagonal: &[u64; 12]) -> [u64; 12]
@@ -20,32 +43,35 @@ pub fn kept_inverses(width: usize, diagonal: &[u64; 12]) -> [u64; 12]
     let mut inverses = [0u64; 12];
     let mut i = 0;
     while i < width {
-        inverses[i] = inverse(diagonal[i]);
+        inverses[i] = inverse_or_zero(diagonal[i]);
         i += 1;
     }
     inverses
 }
 
-// 1 and the first of the inverses.
-fn one_and_sum(width: usize, inverses: &[u64; 12]) -> u64
-    requires { ⌜ (width ≤ 12) × Words prime (now inverses) ⌝ }
-    ensures { λ r. ⌜ r ≡ (1 + sum (take width (now (inverses .entry)))) % prime ⌝ }
+// A word and the first of some words, added up.
+fn sum_from(start: u64, count: usize, words: &[u64]) -> u64
+    requires { ⌜ (start < prime) × (count ≤ length (now words)) × Words prime (now words) ⌝ }
+    ensures { λ r. ⌜ r ≡ (start + sum (take count (now (words .entry)))) % prime ⌝ }
 {
-    let mut total = 1;
+    let mut total = start;
     let mut i = 0;
-    while i < width {
-        total = sum(total, inverses[i]);
+    while i < count {
+        total = sum(total, words[i]);
         i += 1;
     }
     total
 }
 
-// The inverse of 1 plus the first of the inverses.
+// The inverse of 1 plus the first of the inverses, or 0 where one of them is 0.
 pub fn total_inverse(width: usize, inverses: &[u64; 12]) -> u64
-    requires { ⌜ (width ≤ 12) × Words prime (now inverses) × (0 < (1 + sum (take width (now inverses))) % prime) ⌝ }
+    requires { ⌜ (width ≤ 12) × Words prime (now inverses) × (zeros (take width (now inverses)) ≡ 0 → 0 < (1 + sum (take width (now inverses))) % prime) ⌝ }
     ensures { λ r. ⌜ r ≡ totalInverse prime width (now (inverses .entry)) ⌝ }
 {
-    inverse(one_and_sum(width, inverses))
+    if zero_place(width, inverses) < width {
+        return 0;
+    }
+    fields::inverse(sum_from(1, width, inverses))
 }
 
 // The words, each times its inverse, added up.
@@ -74,11 +100,35 @@ fn multiples_less(s: u64, inverses: &[u64; 12], state: &mut [u64])
     }
 }
 
-// M_I undone.
-pub fn uninternal(inverses: &[u64; 12], total_inverse: u64, state: &mut [u64])
+// The sum of the words before M_I: the number at the place of the inverse that is 0, or else the weighted sum.
+fn old_sum(zero: usize, inverses: &[u64; 12], total_inverse: u64, state: &[u64]) -> u64
     requires { ⌜ (length (now state) ≤ 12) × Words prime (now state) ⌝ }
+    ensures { λ r. ⌜ r ≡ oldSum prime zero (take (length (now (state .entry))) (now (inverses .entry))) «total_inverse» (now (state .entry)) ⌝ }
+{
+    if zero < state.len() {
+        return state[zero];
+    }
+    product(weighted_sum(inverses, state), total_inverse)
+}
+
+// At a place, if it is one of the state's: what all the words leave of `s`.
+fn put_rest(s: u64, zero: usize, state: &mut [u64])
+    requires { ⌜ (s < prime) × Words prime (now state) ⌝ }
+    ensures { λ r. ⌜ now (state .exit) ≡ set (now (state .entry)) zero (sub prime s (sum (now (state .entry)))) ⌝ }
+{
+    if state.len() <= zero {
+        return;
+    }
+    let others = sum_from(0, state.len(), state);
+    state[zero] = difference(s, others);
+}
+
+// M_I undone. `zero` is the place of the first inverse that is 0, or the state's length.
+pub fn uninternal(zero: usize, inverses: &[u64; 12], total_inverse: u64, state: &mut [u64])
+    requires { ⌜ (zero ≡ zeroPlace (take (length (now state)) (now inverses))) × (length (now state) ≤ 12) × Words prime (now state) × (length (now inverses) ≡ 12) ⌝ }
     ensures { λ r. ⌜ now (state .exit) ≡ uninternalBy prime (take (length (now (state .entry))) (now (inverses .entry))) «total_inverse» (now (state .entry)) ⌝ }
 {
-    let s = product(weighted_sum(inverses, state), total_inverse);
+    let s = old_sum(zero, inverses, total_inverse, state);
     multiples_less(s, inverses, state);
+    put_rest(s, zero, state);
 }

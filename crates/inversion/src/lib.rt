@@ -6,7 +6,7 @@ ghost use mathlib.Core.Path.{_≡_};
 ghost use Prim.Native.Nat.{_+_, _*_, _≤_};
 ghost use lib.ListN.{length, take, drop};
 ghost use Rattle.fields.specs.Prime.{prime};
-ghost use Rattle.poseidon2.specs.Inverse.{subLists, seventhRoots, unfullRounds, unpermute};
+ghost use Rattle.poseidon2.specs.Inverse.{zeroPlace, subLists, seventhRoots, unfullRounds, unpermute};
 ghost use Rattle.poseidon2.specs.Statements.{Width, Words, AcceptedDiagonal};
 ghost use Rattle.inversion.specs.Kept.{WordsBelow, UnpermuteInput, unpartialRoundsBy, unpermuteBy};
 use external::unexternal;
@@ -15,6 +15,7 @@ use fields::seventh_root;
 pub use internal::kept_inverses;
 pub use internal::total_inverse;
 use internal::uninternal;
+use internal::zero_place;
 
 // Every word's seventh root, less the constants from place `at` on.
 fn unraise(constants: &[u64; 208], at: usize, state: &mut [u64])
@@ -42,28 +43,30 @@ fn unfull_rounds(rounds: usize, constants: &[u64; 208], at: usize, state: &mut [
     }
 }
 
-// Partial rounds undone: the first of them has the constant at place `at`.
+// Partial rounds undone: the first of them has the constant at place `at`. `zero` is the place of the first inverse that is 0, or the
+// state's length.
 fn unpartial_rounds(
     rounds: usize,
+    zero: usize,
     inverses: &[u64; 12],
     total_inverse: u64,
     constants: &[u64; 208],
     at: usize,
     state: &mut [u64],
 )
-    requires { ⌜ Width (length (now state)) × Words prime (now state) × (at + rounds ≤ 208) × WordsBelow prime (at + rounds) (now constants) ⌝ }
+    requires { ⌜ Width (length (now state)) × Words prime (now state) × (at + rounds ≤ 208) × WordsBelow prime (at + rounds) (now constants) × (zero ≡ zeroPlace (take (length (now state)) (now inverses))) × (length (now inverses) ≡ 12) ⌝ }
     ensures { λ r. ⌜ now (state .exit) ≡ unpartialRoundsBy prime (take (length (now (state .entry))) (now (inverses .entry))) «total_inverse» rounds (drop at (now (constants .entry))) (now (state .entry)) ⌝ }
 {
     let mut i = rounds;
     while i > 0 {
         i -= 1;
-        uninternal(inverses, total_inverse, state);
+        uninternal(zero, inverses, total_inverse, state);
         let root = seventh_root(state[0]);
         state[0] = difference(root, constants[at + i]);
     }
 }
 
-// The inverse permutation, handed the inverses of D and the inverse of 1 plus their sum.
+// The inverse permutation, handed the inverses of D, 0 for a 0, and the inverse of 1 plus their sum.
 pub fn unpermute_by(
     width: usize,
     half: usize,
@@ -77,9 +80,11 @@ pub fn unpermute_by(
     ensures { λ r. ⌜ now (state .exit) ≡ unpermuteBy prime width half «partial_rounds» (now (inverses .entry)) «total_inverse» (now (constants .entry)) (now (state .entry)) ⌝ }
 {
     let middle = width * half;
+    let zero = zero_place(width, inverses);
     unfull_rounds(half, constants, middle + partial_rounds, state);
     unpartial_rounds(
         partial_rounds,
+        zero,
         inverses,
         total_inverse,
         constants,

@@ -6,6 +6,7 @@ use native.Mathlib.Omega.{arith}
 use lib.ListN.{length, getD, take, set}
 use Rattle.modular.specs.Arithmetic.{sub, seventhRoot}
 use Rattle.fields.specs.Prime.{prime}
+use Rattle.poseidon2.specs.Inverse.{zeroPlace}
 use Rattle.poseidon2.specs.Statements.{State}
 use Rattle.inversion.specs.Kept.{uninternalBy}
 use Rattle.inversion.proofs.Words.{root-word, unpartialRoundsBy-state}
@@ -14,10 +15,10 @@ use Rattle.inversion.proofs.unpartial_rounds.Statement.{statement}
 use Rattle.inversion.proofs.unpartial_rounds.Tie as tie
 
 abbrev Inv-loop : tie.InvT-loop
-Inv-loop rounds inverses total-inverse constants at state₀ i₀ state i = (i ≤ rounds) × (state ≡ partialFrom (take (length state₀) inverses) total-inverse constants at rounds state₀ i) × State prime (length state₀) state
+Inv-loop rounds zero inverses total-inverse constants at state₀ i₀ state i = (i ≤ rounds) × (state ≡ partialFrom (take (length state₀) inverses) total-inverse constants at rounds state₀ i) × State prime (length state₀) state
 
 abbrev μ-loop : tie.MeasureT-loop
-μ-loop rounds inverses total-inverse constants at state₀ i₀ state i = i
+μ-loop rounds zero inverses total-inverse constants at state₀ i₀ state i = i
 
 loop-holds : tie.Need-loop-holds Inv-loop μ-loop
 loop-holds c =
@@ -28,7 +29,9 @@ loop-holds c =
 uninternal-requires : tie.Need-uninternal-requires Inv-loop μ-loop
 uninternal-requires c κs =
     let l = c .before .before in
-    (omega (arith, l .loop .inv .2 .width, width-small (l .before .before .pre .0)), l .loop .inv .2 .words)
+    let s = l .before .before in
+    let long = l .loop .inv .2 .width in
+    (s .pre .4 ∙ ap (λ (n : ℕ). zeroPlace (take n (s .args .inverses .now))) (sym long), omega (arith, long, width-small (s .pre .0)), l .loop .inv .2 .words, s .pre .5)
 
 slice-read-seventh-root : tie.Need-slice-read-seventh-root Inv-loop μ-loop
 slice-read-seventh-root c =
@@ -74,7 +77,7 @@ loop-again c =
     let i = l .loop .i in
     let d : c .difference .result ≡ sub prime (seventhRoot prime (getD (uninternalBy prime es k (l .loop .state)) 0 0)) (getD C (at + (i - 1)) 0) =
     c .difference .ensures ∙ ap (λ (n : ℕ). sub prime n (getD C (at + (i - 1)) 0)) (c .before .before .seventh-root .ensures ∙ ap (λ (ys : List ℕ). seventhRoot prime (getD ys 0 0)) f) in
-    let q : set (u .uninternal .last .1 .1 .0) 0 (c .difference .result) ≡ partialFrom es k C at (s .args .rounds) xs (i - 1) =
+    let q : set (u .uninternal .last .1 .1 .1 .0) 0 (c .difference .result) ≡ partialFrom es k C at (s .args .rounds) xs (i - 1) =
     ap (λ (ys : List ℕ). set ys 0 (c .difference .result)) f
     ∙ partial-more es k C at (s .args .rounds) xs i (l .loop .state) (c .difference .result) (u .before .before .loop-test .taken) (l .loop .inv .0) (l .loop .inv .1) d in
     (omega arith, q, subst (State prime (length xs)) (sym q) (unpartialRoundsBy-state es k _ _ xs (record { width = refl; words = s .pre .1 })))

@@ -1,10 +1,11 @@
-use mathlib.Core.Path.{sym, ap, ap₂, subst, _∙_}
+use mathlib.Core.Path.{_≡_, sym, ap, ap₂, subst, _∙_}
 use mathlib.Core.List.{List}
 use Prim.Native.Nat.{ℕ, _+_, _%_, _<_}
 use borrow.Author.Needs.{needs}
 use lib.ListN.{take}
 use Rattle.fields.specs.Prime.{prime}
 use Rattle.poseidon2.specs.Layers.{sum}
+use Rattle.poseidon2.specs.Inverse.{zeros}
 use Rattle.poseidon2.specs.Statements.{Words}
 use Rattle.inversion.specs.Kept.{totalInverse, unpermuteBy}
 use Rattle.inversion.proofs.Kept.{kept-words, kept-sum, kept-unpermute}
@@ -21,7 +22,7 @@ total-inverse-requires c κs =
     let s = k .before .before in
     let D = s .args .diagonal .now in
     let e = sym (k .kept-inverses .ensures) in
-    (width-small (s .pre .0 .width) .1, subst (Words prime) e (kept-words D (s .pre .1)), subst (λ (es : List ℕ). 0 < (1 + sum (take (s .args .width) es)) % prime) e (kept-sum D (s .pre .1)))
+    (width-small (s .pre .0 .width) .1, subst (Words prime) e (kept-words D (s .pre .1)), subst (λ (es : List ℕ). zeros (take (s .args .width) es) ≡ 0 → 0 < (1 + sum (take (s .args .width) es)) % prime) e (kept-sum D (s .pre .1)))
 
 returns : tie.Need-returns
 returns c =

@@ -6,7 +6,7 @@ use Rattle.modular.specs.Arithmetic.{inverse}
 use Rattle.fields.specs.Prime.{prime}
 use Rattle.inversion.specs.Kept.{keptInverses}
 use Rattle.inversion.proofs.Placewise.{done, done-none, done-more, done-inverses}
-use Rattle.inversion.proofs.Kept.{nonzero-at, word-at, long-enough}
+use Rattle.inversion.proofs.Kept.{word-at, long-enough}
 use Rattle.inversion.proofs.internal.kept_inverses.Statement.{statement}
 use Rattle.inversion.proofs.internal.kept_inverses.Tie as tie
 
@@ -19,17 +19,16 @@ abbrev μ-loop : tie.MeasureT-loop
 loop-holds : tie.Need-loop-holds Inv-loop μ-loop
 loop-holds c = (omega arith, done-none _ _)
 
-inverse-requires : tie.Need-inverse-requires Inv-loop μ-loop
-inverse-requires c κs =
+inverse-or-zero-requires : tie.Need-inverse-or-zero-requires Inv-loop μ-loop
+inverse-or-zero-requires c κs =
     let s = c .before .before .before in
-    let D = s .args .diagonal .now in
-    (nonzero-at D (s .pre .1) (c .before .before .loop .i) (c .before .loop-test .taken), word-at D (s .pre .1) (c .before .before .loop .i) (c .before .loop-test .taken))
+    word-at (s .args .diagonal .now) (s .pre .1) (c .before .before .loop .i) (c .before .loop-test .taken)
 
 loop-again : tie.Need-loop-again Inv-loop μ-loop
 loop-again c =
     let l = c .before .before .before in
     let s = l .before in
-    (omega arith, done-more (λ k x. inverse prime (getD (s .args .diagonal .now) k 0)) (l .loop .i) (replicate 12 0) (l .loop .inverses) (c .inverse .result) (l .loop .inv .1) (omega arith) (c .inverse .ensures))
+    (omega arith, done-more (λ k x. inverse prime (getD (s .args .diagonal .now) k 0)) (l .loop .i) (replicate 12 0) (l .loop .inverses) (c .inverse-or-zero .result) (l .loop .inv .1) (omega arith) (c .inverse-or-zero .ensures))
 
 returns : tie.Need-returns Inv-loop μ-loop
 unfolding keptInverses
@@ -42,5 +41,5 @@ returns c =
 pub kept-inverses-spec : {M : Type 1} → statement M
 kept-inverses-spec =
     tie.close
-    (tie.spec Inv-loop μ-loop loop-holds (λ c. omega arith) (λ c. omega arith) inverse-requires (λ c. omega arith) (λ c. omega arith)
+    (tie.spec Inv-loop μ-loop loop-holds (λ c. omega arith) (λ c. omega arith) inverse-or-zero-requires (λ c. omega arith) (λ c. omega arith)
     (λ c. omega arith) (λ c. omega arith) loop-again returns)

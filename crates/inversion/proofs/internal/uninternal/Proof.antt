@@ -1,34 +1,52 @@
-use mathlib.Core.Path.{sym, ap, _∙_}
+use mathlib.Core.Path.{_≡_, sym, subst, _∙_}
+use Prim.Native.Nat.{ℕ, _<_}
+use native.Mathlib.Omega.{arith}
 use borrow.Author.Needs.{needs}
-use Prim.Native.Nat.{ℕ, _*_, _%_}
 use lib.ListN.{length, take}
-use Rattle.modular.specs.Arithmetic.{mul}
-use Rattle.modular.specs.Congruence.{_≈⟨_⟩_}
+use lib.Seq.{length-take-le}
 use Rattle.fields.specs.Prime.{prime}
-use Rattle.modular.proofs.Congruence.{refl≈, trans≈, eq≈, mod≈, mul≈}
-use Rattle.poseidon2.specs.Layers.{dot}
-use Rattle.inversion.specs.Kept.{uninternalBy}
-use Rattle.inversion.proofs.Words.{mul-word}
-use Rattle.inversion.proofs.Kept.{multiplesLess-take, multiplesLess-same}
+use Rattle.fields.proofs.Prime.{positive}
+use Rattle.poseidon2.specs.Statements.{Words}
+use Rattle.poseidon2.proofs.Internal.{multiplesLess-words}
+use Rattle.inversion.proofs.Kept.{multiplesLess-take, sum-word, by-old-sum}
 use Rattle.inversion.proofs.internal.uninternal.Statement.{statement}
 use Rattle.inversion.proofs.internal.uninternal.Tie as tie
 
+-- as many inverses are read as there are words
+as-many : (s : tie.Start) → length (take (length (s .args .state .now)) (s .args .inverses .now)) ≡ length (s .args .state .now)
+as-many s = length-take-le (length (s .args .state .now)) (s .args .inverses .now) (omega (arith, s .pre .1, s .pre .3))
+
+-- the sum is a word
+word : (c : tie.After-old-sum) → c .old-sum .result < prime
+word c =
+    let s = c .before .before .before in
+    let a = s .args in
+    subst (λ (n : ℕ). n < prime) (sym (c .old-sum .ensures)) (sum-word (a .zero) _ (a .total-inverse) (a .state .now) (s .pre .2))
+
 multiples-less-requires : tie.Need-multiples-less-requires
 multiples-less-requires c κs =
-    let s = c .before .before .before .before .before in
-    (rw (c .before .product .ensures) (mul-word _ _), s .pre .0, s .pre .1)
+    let s = c .before .before .before .before in
+    (word (c .before), s .pre .1, s .pre .2)
+
+put-rest-requires : tie.Need-put-rest-requires
+put-rest-requires c κs =
+    let m = c .before .before .before in
+    let o = m .before .before in
+    (word o, subst (Words prime) (sym (m .multiples-less .ensures)) (multiplesLess-words positive _ _ _))
 
 returns : tie.Need-returns
-unfolding uninternalBy mul
 returns c =
-    let u = c .before .before .before .before in
-    let a = u .before .before .before .before .args in
+    let u = c .before .before in
+    let m = u .before .before .before .before in
+    let o = m .before .before in
+    let s = o .before .before .before in
+    let a = s .args in
     let ys = a .state .now in
-    let es = take (length ys) (a .inverses .now) in
-    let same : u .product .result ≈⟨ prime ⟩ dot es ys * a .total-inverse =
-    trans≈ (eq≈ (u .product .ensures ∙ ap (λ (n : ℕ). n * a .total-inverse % prime) (u .before .weighted-sum .ensures)))
-    (trans≈ (mod≈ (dot es ys % prime * a .total-inverse)) (mul≈ (mod≈ (dot es ys)) (refl≈ {a = a .total-inverse}))) in
-    c .before .before .multiples-less .ensures ∙ sym (multiplesLess-take prime (u .product .result) (a .inverses .now) ys) ∙ multiplesLess-same prime same es ys
+    u .put-rest .ensures
+    ∙ by-old-sum (a .zero) (take (length ys) (a .inverses .now)) (a .total-inverse) ys (o .old-sum .result) _ (s .pre .0) (as-many s) (o .old-sum .ensures)
+    (m .multiples-less .ensures ∙ sym (multiplesLess-take prime (o .old-sum .result) (a .inverses .now) ys))
 
 pub uninternal-spec : {M : Type 1} → statement M
-uninternal-spec = tie.close (tie.spec (λ c. search needs) (λ c. search needs) multiples-less-requires (λ c. search needs) returns)
+uninternal-spec =
+    tie.close
+    (tie.spec (λ c κs. search needs) multiples-less-requires put-rest-requires (λ c. search needs) returns)
