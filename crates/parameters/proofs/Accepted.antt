@@ -8,13 +8,13 @@ use native.Mathlib.Nat.{div-le-self, mul-le-mul}
 use native.Mathlib.Omega.{arith}
 use lib.Dec.{eqb, ltb, lit<}
 use lib.ListN.{length}
-use borrow.Author.Tests.{eqb-true, eqb-false, ltb-false}
+use borrow.Author.Tests.{eqb-true, eqb-false, ltb-false, not-false}
 use Rattle.modular.specs.Arithmetic.{allWords}
 use Rattle.modular.proofs.Words.{left-true, right-true}
 use Rattle.refusals.specs.Table.{refusal, firstRefusal}
 use Rattle.refusals.proofs.Table.{Numbered, none, next, numbered-append, refusal-none, first-none}
 use Rattle.poseidon2.specs.Statements.{Width}
-use Rattle.parameters.specs.Refusals.{badWidth, badNodeSize, badFullRounds, badPartialRounds, badHeight, constantCount, badLengths, hasZero, badDiagonal, numberRefusals, shapeRefusals, listRefusals, validationRefusals}
+use Rattle.parameters.specs.Refusals.{badWidth, badNodeSize, badFullRounds, badPartialRounds, badHeight, constantCount, badLengths, severalZeros, badDiagonal, numberRefusals, shapeRefusals, diagonalRefusals, listRefusals, validationRefusals}
 use Rattle.parameters.specs.ParameterSet.{primeOf, heldRefusals, setRefusals}
 use Rattle.parameters.specs.declared.ParameterSet.{ParameterSet}
 
@@ -22,10 +22,6 @@ use Rattle.parameters.specs.declared.ParameterSet.{ParameterSet}
 or-false : (a b : Bool) → (a || b) ≡ false → (a ≡ false) × (b ≡ false)
 or-false true b e = absurd (false≢true (sym e))
 or-false false b e = (refl, e)
-
-not-false : (b : Bool) → not b ≡ false → b ≡ true
-not-false true e = refl
-not-false false e = sym e
 
 pub width-of : (t : ℕ) → badWidth t ≡ false → Width t
 unfolding badWidth
@@ -103,7 +99,7 @@ count-fits t l h rf rp N = omega (arith, mul-le-mul {n₁ = t} {m₁ = rf} {n₂
 pub record Lists (p : ℕ) (D C : List ℕ) : Type 0 where
   pub diagonal : allWords p D ≡ true
   pub constants : allWords p C ≡ true
-  pub noZero : hasZero D ≡ false
+  pub fewZeros : severalZeros D ≡ false
   pub sum : badDiagonal p D ≡ false
 
 pub numbers-of : (t l h rf rp : ℕ) → firstRefusal (numberRefusals t l h rf rp) ≡ 0 → Numbers t l h rf rp
@@ -120,18 +116,25 @@ pub numbers-numbered : (t l h rf rp : ℕ) → Numbered (numberRefusals t l h rf
 unfolding numberRefusals
 numbers-numbered t l h rf rp = next (lit< tt) (next (lit< tt) (next (lit< tt) (next (lit< tt) (next (lit< tt) none))))
 
+-- neither 8 nor 9
+pub diagonal-of : (p : ℕ) (D : List ℕ) → firstRefusal (diagonalRefusals p D) ≡ 0 → (severalZeros D ≡ false) × (badDiagonal p D ≡ false)
+unfolding diagonalRefusals
+diagonal-of p D e =
+    let r8 = refusal-none 7 (severalZeros D) _ e in
+    let r9 = refusal-none 8 (badDiagonal p D) _ (r8 .1) in
+    (r8 .0, r9 .0)
+
 pub lists-of : (p : ℕ) (D C : List ℕ) → firstRefusal (listRefusals p D C) ≡ 0 → Lists p D C
 unfolding listRefusals
 lists-of p D C e =
     let r7 = refusal-none 6 (not (allWords p D && allWords p C)) _ e in
-    let r8 = refusal-none 7 (hasZero D) _ (r7 .1) in
-    let r9 = refusal-none 8 (badDiagonal p D) _ (r8 .1) in
+    let r = diagonal-of p D (r7 .1) in
     let w = not-false (allWords p D && allWords p C) (r7 .0) in
-    record { diagonal = left-true (allWords p D) (allWords p C) w; constants = right-true (allWords p D) (allWords p C) w; noZero = r8 .0; sum = r9 .0 }
+    record { diagonal = left-true (allWords p D) (allWords p C) w; constants = right-true (allWords p D) (allWords p C) w; fewZeros = r .0; sum = r .1 }
 
 -- The refusals of a set that is handed in.
 pub lists-numbered : (p : ℕ) (D C : List ℕ) → Numbered (listRefusals p D C)
-unfolding listRefusals
+unfolding listRefusals diagonalRefusals
 lists-numbered p D C = next (lit< tt) (next (lit< tt) (next (lit< tt) none))
 
 pub set-numbered : (s : ParameterSet) → Numbered (setRefusals s)
@@ -147,14 +150,25 @@ pub shape-first : (p t l h rf rp : ℕ) (D C : List ℕ) → validationRefusals 
 unfolding validationRefusals shapeRefusals numberRefusals
 shape-first p t l h rf rp D C = refl
 
--- The lists of a set that is held have the places that the set has for them.
-pub shape-fits : (t l h rf rp : ℕ) (D C : List ℕ) → firstRefusal (shapeRefusals t l h rf rp D C) ≡ 0 → (length D ≤ 12) × (length C ≤ 208)
+-- The lists of a set that is held have the lengths that its numbers say, and so the places that the set has for them.
+pub record Shape (t l h rf rp : ℕ) (D C : List ℕ) : Type 0 where
+  pub numbers : Numbers t l h rf rp
+  pub diagonal : length D ≡ t
+  pub constants : length C ≡ constantCount t rf rp
+
+pub shape-of : (t l h rf rp : ℕ) (D C : List ℕ) → firstRefusal (shapeRefusals t l h rf rp D C) ≡ 0 → Shape t l h rf rp D C
 unfolding shapeRefusals badLengths
-shape-fits t l h rf rp D C e =
+shape-of t l h rf rp D C e =
     let n = first-none (numberRefusals t l h rf rp) (refusal 6 (badLengths t rf rp D C) ∷ []) (numbers-numbered t l h rf rp) e in
-    let N = numbers-of t l h rf rp (n .0) in
     let r6 = refusal-none 5 (badLengths t rf rp D C) [] (n .1) in
     let b = not-false (eqb (length D) t && eqb (length C) (constantCount t rf rp)) (r6 .0) in
-    let d : length D ≡ t = eqb-true (length D) t (left-true (eqb (length D) t) (eqb (length C) (constantCount t rf rp)) b) in
-    let c : length C ≡ constantCount t rf rp = eqb-true (length C) (constantCount t rf rp) (right-true (eqb (length D) t) (eqb (length C) (constantCount t rf rp)) b) in
-    (omega (arith, width-fits t (N .width)), omega (arith, count-fits t l h rf rp N))
+    record {
+      numbers = numbers-of t l h rf rp (n .0);
+      diagonal = eqb-true (length D) t (left-true (eqb (length D) t) (eqb (length C) (constantCount t rf rp)) b);
+      constants = eqb-true (length C) (constantCount t rf rp) (right-true (eqb (length D) t) (eqb (length C) (constantCount t rf rp)) b);
+    }
+
+pub shape-fits : (t l h rf rp : ℕ) (D C : List ℕ) → firstRefusal (shapeRefusals t l h rf rp D C) ≡ 0 → (length D ≤ 12) × (length C ≤ 208)
+shape-fits t l h rf rp D C e =
+    let S = shape-of t l h rf rp D C e in
+    (omega (arith, S .diagonal, width-fits t (S .numbers .width)), omega (arith, S .constants, count-fits t l h rf rp (S .numbers)))

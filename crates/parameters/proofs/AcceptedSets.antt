@@ -1,6 +1,6 @@
 -- What the core is handed under a set that is accepted.
-use mathlib.Core.Path.{_≡_}
-use mathlib.Core.Bool.{true}
+use mathlib.Core.Path.{_≡_, sym, _∙_}
+use mathlib.Core.Bool.{true, false}
 use mathlib.Core.List.{List}
 use Prim.Native.Nat.{ℕ, _+_, _*_, _/_, _%_, _≤_, _<_}
 use native.Mathlib.Nat.{mul-le-mul-right, div-mul-le-self}
@@ -17,11 +17,11 @@ use Rattle.refusals.proofs.Table.{first-none}
 use Rattle.poseidon2.specs.Layers.{sum}
 use Rattle.poseidon2.specs.Inverse.{inverses}
 use Rattle.poseidon2.specs.Statements.{Words, State, AcceptedDiagonal}
-use Rattle.parameters.specs.Refusals.{constantCount, numberRefusals, listRefusals, badDiagonal}
+use Rattle.parameters.specs.Refusals.{constantCount, severalZeros, badDiagonal, numberRefusals, listRefusals}
 use Rattle.parameters.specs.ParameterSet.{primeOf, heldRefusals, setRefusals}
 use Rattle.parameters.specs.declared.ParameterSet.{ParameterSet}
+use Rattle.parameters.proofs.Diagonal.{without-zero, few-zeros}
 use Rattle.parameters.proofs.Accepted.{Numbers, Lists, numbers-of, numbers-numbered, lists-of, width-fits}
-use Rattle.parameters.proofs.Lists.{nonzero-at}
 
 -- numbers that the test of words accepts
 pub words-of : (p : ℕ) (xs : List ℕ) → 0 < p → allWords p xs ≡ true → Words p xs
@@ -33,6 +33,15 @@ words-of p xs positive e = record { at = λ i. at i (decLt i (length xs)) }
 
 pub state-of : (p t : ℕ) (xs : List ℕ) → 0 < p → length xs ≡ t → allWords p xs ≡ true → State p t xs
 state-of p t xs positive e w = record { width = e; words = words-of p xs positive w }
+
+-- a D of t words that neither 8 nor 9 turns down
+pub accepted-diagonal : (p t : ℕ) (D : List ℕ) → State p t D → severalZeros D ≡ false → badDiagonal p D ≡ false → AcceptedDiagonal p t D
+accepted-diagonal p t D S e f = record {
+  width = S .width;
+  words = S .words;
+  fewZeros = few-zeros D e;
+  sumNonzero = λ z. omega (arith, eqb-false ((1 + sum (inverses p D)) % p) 0 (sym (without-zero p D z) ∙ f));
+}
 
 -- a list of words by its places
 pub used-at : (p n : ℕ) (xs : List ℕ) → Words p (take n xs) → (i : ℕ) → i < n → getD xs i 0 < p
@@ -64,13 +73,8 @@ module _ (p t l h rf rp : ℕ) (D C : List ℕ) (positive : 0 < p) (none : first
   used-constants = rw both-halves (words-of p (take (t * rf + rp) C) positive (lists .constants))
 
   pub used-diagonal : t ≤ length D → AcceptedDiagonal p t (take t D)
-  unfolding badDiagonal
-  used-diagonal fits = record {
-    width = length-take-le t D fits;
-    words = words-of p (take t D) positive (lists .diagonal);
-    nonzero = λ i b. omega (arith, nonzero-at (take t D) i (lists .noZero) (rw (length-take-le t D fits) b));
-    sumNonzero = omega (arith, eqb-false ((1 + sum (inverses p (take t D))) % p) 0 (lists .sum));
-  }
+  used-diagonal fits =
+      accepted-diagonal p t (take t D) (state-of p t (take t D) positive (length-take-le t D fits) (lists .diagonal)) (lists .fewZeros) (lists .sum)
 
   -- the widths of numbers that are cast
   pub width-few : t ≤ 12

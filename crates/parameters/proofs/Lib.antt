@@ -1,4 +1,4 @@
--- The laws that the proofs of validation cite, and what an accepted set is.
+-- The laws that the proofs of validation cite, what an accepted set is, and what is claimed of the refusals of D.
 pub mod Lists
 mod Diagonal
 mod Heights
@@ -6,3 +6,4 @@ mod Padding
 pub mod Accepted
 pub mod Answers
 pub mod AcceptedSets
+pub mod Statements

@@ -1,5 +1,5 @@
 -- Refusals 1 to 9 (Rules 8.1): each condition, and those of a set in their order.
-use mathlib.Core.Bool.{Bool, false, not, _&&_, _||_}
+use mathlib.Core.Bool.{Bool, not, _&&_, _||_}
 use mathlib.Core.List.{List, [], _∷_, _++_}
 use Prim.Native.Nat.{ℕ, _+_, _*_, _/_, _%_, _^_}
 use lib.Dec.{eqb, ltb}
@@ -7,7 +7,7 @@ use lib.ListN.{length}
 use Rattle.modular.specs.Arithmetic.{allWords}
 use Rattle.refusals.specs.Table.{Refusal, refusal}
 use Rattle.poseidon2.specs.Layers.{sum}
-use Rattle.poseidon2.specs.Inverse.{inverses}
+use Rattle.poseidon2.specs.Inverse.{inverses, zeros}
 
 -- 1: the width is not 4, 8 or 12.
 unfoldable pub badWidth : ℕ → Bool
@@ -37,14 +37,13 @@ constantCount t rf rp = t * rf + rp
 unfoldable pub badLengths : ℕ → ℕ → ℕ → List ℕ → List ℕ → Bool
 badLengths t rf rp D C = not (eqb (length D) t && eqb (length C) (constantCount t rf rp))
 
--- 8: a word of D is 0.
-unfoldable pub hasZero : List ℕ → Bool
-hasZero [] = false
-hasZero (d ∷ ds) = eqb d 0 || hasZero ds
+-- 8: two or more words of D are 0.
+unfoldable pub severalZeros : List ℕ → Bool
+severalZeros D = ltb 1 (zeros D)
 
--- 9: 1 plus the inverses of all words of D is 0 modulo p.
+-- 9: no word of D is 0, and 1 plus the inverses of all is 0 modulo p.
 unfoldable pub badDiagonal : ℕ → List ℕ → Bool
-badDiagonal p D = eqb ((1 + sum (inverses p D)) % p) 0
+badDiagonal p D = eqb (zeros D) 0 && eqb ((1 + sum (inverses p D)) % p) 0
 
 -- The refusals of the five numbers.
 unfoldable pub numberRefusals : ℕ → ℕ → ℕ → ℕ → ℕ → List Refusal
@@ -55,12 +54,15 @@ numberRefusals t l h rf rp =
     refusal 4 (badPartialRounds rp) ∷
     refusal 5 (badHeight (t / l) h) ∷ []
 
+-- The refusals of a D that is words: those by which M_I has to have an inverse (Statements).
+unfoldable pub diagonalRefusals : ℕ → List ℕ → List Refusal
+diagonalRefusals p D =
+    refusal 8 (severalZeros D) ∷
+    refusal 9 (badDiagonal p D) ∷ []
+
 -- 7, a number of D or C is not a word; then 8 and 9. The lists are those of the used places.
 unfoldable pub listRefusals : ℕ → List ℕ → List ℕ → List Refusal
-listRefusals p D C =
-    refusal 7 (not (allWords p D && allWords p C)) ∷
-    refusal 8 (hasZero D) ∷
-    refusal 9 (badDiagonal p D) ∷ []
+listRefusals p D C = refusal 7 (not (allWords p D && allWords p C)) ∷ diagonalRefusals p D
 
 -- The refusals of the five numbers and of the lists' lengths: those that a set has to pass to be held at all.
 unfoldable pub shapeRefusals : ℕ → ℕ → ℕ → ℕ → ℕ → List ℕ → List ℕ → List Refusal

@@ -8,7 +8,7 @@ ghost use Rattle.modular.specs.Arithmetic.{allWords};
 ghost use Rattle.fields.specs.Prime.{prime};
 ghost use Rattle.refusals.specs.Table.{firstRefusal};
 ghost use Rattle.parameters.specs.ParameterSet.{padded, held, noSet, holding, validation, heldRefusals};
-ghost use Rattle.parameters.specs.Refusals.{badWidth, badNodeSize, badFullRounds, badPartialRounds, badHeight, badLengths, hasZero, badDiagonal, numberRefusals, shapeRefusals, listRefusals, validationRefusals};
+ghost use Rattle.parameters.specs.Refusals.{badWidth, badNodeSize, badFullRounds, badPartialRounds, badHeight, badLengths, severalZeros, badDiagonal, numberRefusals, shapeRefusals, listRefusals, validationRefusals};
 
 pub struct ParameterSet {
     pub width: u64,
@@ -162,23 +162,28 @@ pub fn all_words(numbers: &[u64]) -> bool
     few_words(&numbers[i..])
 }
 
-fn has_zero(numbers: &[u64]) -> bool
-    ensures { λ r. ⌜ r ≡ hasZero (now (numbers .entry)) ⌝ }
+fn several_zeros(numbers: &[u64]) -> bool
+    ensures { λ r. ⌜ r ≡ severalZeros (now (numbers .entry)) ⌝ }
 {
+    let mut zeros: usize = 0;
     let mut i = 0;
     while i < numbers.len() {
         if numbers[i] == 0 {
-            return true;
+            zeros += 1;
         }
         i += 1;
+    }
+    if 1 < zeros {
+        return true;
     }
     false
 }
 
-// Whether the inverses of D and 1 sum to 0, without an inversion: that sum times the product of all D is the product plus the sum
-// of all products that leave one out, two products a word.
+// Whether no word of D is 0, and 1 and their inverses sum to 0; without an inversion: that sum times the product of all D is the product
+// plus the sum of all products that leave one out, two products a word. With one 0 in D the product of the others alone is left, which is
+// not 0.
 fn bad_diagonal(diagonal: &[u64]) -> bool
-    requires { ⌜ (allWords prime (now diagonal) ≡ true) × (hasZero (now diagonal) ≡ false) ⌝ }
+    requires { ⌜ (allWords prime (now diagonal) ≡ true) × (severalZeros (now diagonal) ≡ false) ⌝ }
     ensures { λ r. ⌜ r ≡ badDiagonal prime (now (diagonal .entry)) ⌝ }
 {
     let mut all: u64 = 1;
@@ -233,7 +238,7 @@ fn refusal_of_lists(diagonal: &[u64], constants: &[u64]) -> u8
     if !all_words(constants) {
         return 7;
     }
-    if has_zero(diagonal) {
+    if several_zeros(diagonal) {
         return 8;
     }
     if bad_diagonal(diagonal) {

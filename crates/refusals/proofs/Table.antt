@@ -3,7 +3,7 @@ use mathlib.Core.Path.{_≡_, refl, sym, ap, subst, _∙_}
 use mathlib.Core.Logic.{_≢_}
 use mathlib.Core.Bool.{Bool, true, false, cond, not}
 use mathlib.Core.List.{List, [], _∷_, _++_}
-use Prim.Native.Nat.{ℕ, zero, suc, _<_}
+use Prim.Native.Nat.{ℕ, zero, suc, _<_, _≤_}
 use native.Mathlib.Omega.{arith}
 use Rattle.modular.specs.Arithmetic.{allWords}
 use Rattle.refusals.specs.Table.{Refusal, refusal, notWords, firstRefusal, Reply, refused, done, reply, after}
@@ -123,6 +123,20 @@ reply-none refusals result xs e = go (firstRefusal refusals) refl
 
 pub reply-result : (refusals : List Refusal) (result xs : List ℕ) → Numbered refusals → reply refusals result ≡ done xs → result ≡ xs
 reply-result refusals result xs N e = ap resultOf (sym (reply-done refusals result N (reply-none refusals result xs e)) ∙ e)
+
+-- Every refusal of the list has a number up to n, and so has the first that applies.
+pub data UpTo (n : ℕ) : List Refusal → Type 0 where
+  up-none : UpTo n []
+  up-next : {r : Refusal} {refusals : List Refusal} → r .number ≤ n → UpTo n refusals → UpTo n (r ∷ refusals)
+
+pub first-up-to : {n : ℕ} {refusals : List Refusal} → UpTo n refusals → firstRefusal refusals ≤ n
+unfolding firstRefusal
+first-up-to up-none = omega arith
+first-up-to {n} (up-next {r} {refusals} h U) = at (r .applies) (first-up-to U)
+  where
+    at : (b : Bool) → firstRefusal refusals ≤ n → cond b (r .number) (firstRefusal refusals) ≤ n
+    at true rest = h
+    at false rest = rest
 
 pub numbered-append : {refusals more : List Refusal} → Numbered refusals → Numbered more → Numbered (refusals ++ more)
 numbered-append none M = M

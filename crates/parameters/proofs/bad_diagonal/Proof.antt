@@ -8,8 +8,7 @@ use lib.ListN.{length}
 use Rattle.fields.specs.Prime.{prime}
 use Rattle.fields.proofs.Prime.{positive, prime-field}
 use Rattle.modular.proofs.Words.{words-at}
-use Rattle.parameters.proofs.Lists.{nonzero-at}
-use Rattle.parameters.proofs.Diagonal.{Products, none-yet, one-more, refused, accepted}
+use Rattle.parameters.proofs.Diagonal.{Products, none-yet, few-zeros, one-more, refused, accepted}
 use Rattle.parameters.proofs.bad_diagonal.Statement.{statement}
 use Rattle.parameters.proofs.bad_diagonal.Tie as tie
 
@@ -30,7 +29,7 @@ loop-again c =
     let D = g .args .diagonal .now in (
       omega arith,
       one-more prime prime-field D (l .loop .i) (l .loop .all) (l .loop .but-one) (c .lazy-product .result) (s .lazy-product-sum .result) (omega arith)
-          (nonzero-at D (l .loop .i) (g .pre .1) (omega arith)) (words-at prime D (l .loop .i) (g .pre .0) (omega arith)) (l .loop .inv .1) (c .lazy-product .ensures) (s .lazy-product-sum .ensures),
+          (words-at prime D (l .loop .i) (g .pre .0) (omega arith)) (few-zeros D (g .pre .1)) (c .lazy-product .ensures) (s .lazy-product-sum .ensures) (l .loop .inv .1),
     )
 
 sum-requires : tie.Need-sum-requires Inv-loop μ-loop
