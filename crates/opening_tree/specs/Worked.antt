@@ -3,10 +3,13 @@ use mathlib.Core.Path.{_≡_}
 use mathlib.Core.List.{List, [], _∷_, _++_}
 use Prim.Native.Nat.{ℕ, _+_, _-_, _^_}
 use Rattle.modular.specs.Arithmetic.{sub, mul, inverse}
+use Rattle.refusals.specs.Table.{firstRefusal}
 use Rattle.fields.specs.Prime.{prime, wordBytes}
 use Rattle.poseidon2.specs.Layers.{m4, external, sums, m4Blocks, internal}
 use Rattle.poseidon2.specs.Rounds.{permute}
 use Rattle.poseidon2.specs.Compression.{compress}
+use Rattle.poseidon2.specs.Inverse.{uninternal}
+use Rattle.parameters.specs.Refusals.{diagonalRefusals}
 use Rattle.merkle.specs.Above.{nodesAbove}
 use Rattle.merkle.specs.Levels.{Shape, build, root}
 use Rattle.trees.specs.Shapes.{shape}
@@ -57,6 +60,30 @@ permutationCases =
     case (permute prime 1 1 tDiagonal uConstants one) (5 ∷ 4 ∷ 1 ∷ 1 ∷ []) ∷
     case (compress prime 2 1 1 tDiagonal uConstants one) (6 ∷ 4 ∷ []) ∷ []
 
+-- D and C of the set V, and a D with two zeros.
+abbrev pub vDiagonal : List ℕ
+vDiagonal = 0 ∷ 1 ∷ 2 ∷ 3 ∷ []
+
+abbrev pub vConstants : List ℕ
+vConstants = 0 ∷ 0 ∷ 0 ∷ 0 ∷ (prime - 505316) ∷ (prime - 632614) ∷ (prime - 1043421) ∷ (prime - 887193) ∷ (prime - 916172) ∷ []
+
+abbrev twoZeros : List ℕ
+twoZeros = 0 ∷ 1 ∷ 0 ∷ 3 ∷ []
+
+-- Under V, M_I and its inverse, the permutation and the compression; two states that M_I merges where D has two zeros; and of refusals 8
+-- and 9 the one that applies, or 0: with one zero, with two, and with one where 1 and the inverses of the others add up to 0.
+abbrev pub zeroCases : List Case
+zeroCases =
+    case (internal prime vDiagonal (4 ∷ 3 ∷ 2 ∷ 1 ∷ [])) (10 ∷ 13 ∷ 14 ∷ 13 ∷ []) ∷
+    case (uninternal prime vDiagonal (10 ∷ 13 ∷ 14 ∷ 13 ∷ [])) (4 ∷ 3 ∷ 2 ∷ 1 ∷ []) ∷
+    case (permute prime 1 1 vDiagonal vConstants one) (5 ∷ 4 ∷ 1 ∷ 1 ∷ []) ∷
+    case (compress prime 2 1 1 vDiagonal vConstants one) (6 ∷ 4 ∷ []) ∷
+    case (internal prime twoZeros one) (1 ∷ 1 ∷ 1 ∷ 1 ∷ []) ∷
+    case (internal prime twoZeros (0 ∷ 0 ∷ 1 ∷ 0 ∷ [])) (1 ∷ 1 ∷ 1 ∷ 1 ∷ []) ∷
+    case (firstRefusal (diagonalRefusals prime vDiagonal) ∷ []) (0 ∷ []) ∷
+    case (firstRefusal (diagonalRefusals prime twoZeros) ∷ []) (8 ∷ []) ∷
+    case (firstRefusal (diagonalRefusals prime (0 ∷ (prime - 3) ∷ (prime - 3) ∷ (prime - 3) ∷ [])) ∷ []) (0 ∷ []) ∷ []
+
 -- The tree of T, and the root of the leaves 1, 0 and 0, 0.
 abbrev pub tTree : Shape
 tTree = shape prime 4 2 1 0 tDiagonal tConstants
@@ -87,7 +114,7 @@ fileCases =
     case (fileWords wordBytes 2 hello) (59512718322786 ∷ 292948653401448 ∷ []) ∷ []
 
 abbrev pub starred : List Case
-starred = fieldCases ++ (permutationCases ++ (treeCases ++ (countCases ++ fileCases)))
+starred = fieldCases ++ (permutationCases ++ (zeroCases ++ (treeCases ++ (countCases ++ fileCases))))
 
 abbrev pub AllHold : List Case → Type 0
 AllHold [] = Unit {0}
