@@ -172,6 +172,8 @@ def written(case: Case, diagonal: list[int], constants: list[int], state: list[i
 T_CONSTANTS = [0, 0, 0, 0, P - 505316, P - 410806, P - 127289, P - 94519]
 U_CONSTANTS = [0, 0, 0, 0] + [P - 505316]
 U_CONSTANTS += [P - 632615, P - 1454227, P - 1014482, P - 1010691]
+V_CONSTANTS = [0, 0, 0, 0] + [P - 505316]
+V_CONSTANTS += [P - 632614, P - 1043421, P - 887193, P - 916172]
 
 
 def case_t() -> Case:
@@ -182,6 +184,11 @@ def case_t() -> Case:
 def case_u() -> Case:
     """The set U (Rules 9) and the state of its worked case."""
     return written(seeded(4, 2, 1, 2, 1, 0), [1, 2, 3, 4], U_CONSTANTS, [1, 0, 0, 0])
+
+
+def case_v() -> Case:
+    """The set V (Rules 9), which has a zero in D, and the state of its worked case."""
+    return written(seeded(4, 2, 1, 2, 1, 0), [0, 1, 2, 3], V_CONSTANTS, [1, 0, 0, 0])
 
 
 # Every width with each of its node sizes.
@@ -248,11 +255,28 @@ def all_of(value: int, width: int) -> Fault:
     return fault
 
 
+def zeros(*places: int) -> Fault:
+    """0 at places of D. One is no fault."""
+
+    def fault(case: Case) -> None:
+        for place in places:
+            case.diagonal.write(place, 0)
+
+    return fault
+
+
 def cancelling(words: list[int], place: int) -> Fault:
-    """At a place of D, the number for which D is refused with 9."""
+    """At a place of D, the number for which 1 and the inverses of D's words add up to 0, zeros left
+    out: without a zero D is refused with 9, and with one it is accepted."""
     others = words[:place] + words[place + 1 :]
-    total = (1 + sum(pow(d, -1, P) for d in others)) % P
+    total = (1 + sum(pow(d, -1, P) for d in others if d != 0)) % P
     return at("diagonal", place, pow(-total, -1, P))
+
+
+def cancelling_beside(words: list[int], place: int, *empty: int) -> list[Fault]:
+    """0 at some places of D, and at another the number for which the others cancel."""
+    left = [0 if i in empty else d for i, d in enumerate(words)]
+    return [zeros(*empty), cancelling(left, place)]
 
 
 def faults(case: Case) -> dict[int, list[Fault]]:
@@ -268,7 +292,7 @@ def faults(case: Case) -> dict[int, list[Fault]]:
         5: [changed("height", n) for n in (33, highest(t, l) + 1, LARGEST)],
         6: [longer(name, by) for by in (-1, 1) for name in ("diagonal", "constants")],
         7: [at("diagonal", 0, P), at("constants", last_c, P)],
-        8: [at("diagonal", 0, 0), at("diagonal", last_d, 0), all_of(0, t)],
+        8: [zeros(0, last_d), zeros(0, 1), zeros(last_d - 1, last_d), all_of(0, t)],
         9: [cancelling(words, last_d), all_of(P - t, t), cancelling(words, 0)],
     }
     ways[3] += [changed("full_rounds", LARGEST)]
@@ -283,11 +307,18 @@ def faults(case: Case) -> dict[int, list[Fault]]:
 ORDER = [1, 2, 3, 4, 5, 9, 8, 7, 6, 12, 10]
 
 
+def altered(case: Case, *changes: Fault) -> Case:
+    """The case with changes that are no faults."""
+    case = deepcopy(case)
+    for change in changes:
+        change(case)
+    return case
+
+
 def faulted(case: Case, *refusals_and_faults: tuple[int, Fault]) -> Case:
     """The case with these faults; the lowest number is to refuse it."""
-    case = deepcopy(case)
-    for _, fault in sorted(refusals_and_faults, key=lambda pair: ORDER.index(pair[0])):
-        fault(case)
+    ordered = sorted(refusals_and_faults, key=lambda pair: ORDER.index(pair[0]))
+    case = altered(case, *(fault for _, fault in ordered))
     case.refusal = min(number for number, _ in refusals_and_faults)
     return case
 
@@ -301,9 +332,10 @@ def turned(ways: list[Fault], by: int) -> Fault:
 
 
 def worked_sets() -> Iterator[Case]:
-    """T, U, and T with D all p - 4."""
+    """T, U, V, and T with D all p - 4."""
     yield case_t()
     yield case_u()
+    yield case_v()
     yield faulted(case_t(), (9, all_of(P - 4, 4)))
 
 
@@ -339,7 +371,7 @@ def accepted_edges() -> Iterator[Case]:
     for t, l in ((4, 1), (8, 2), (12, 6)):
         case = seeded(t, l, 1, 2, 1, 50)
         last_c = case.constants.count - 1
-        for fault in (
+        for change in (
             at("diagonal", 0, P - 1),
             at("diagonal", t - 1, P - 1),
             at("constants", 0, P - 1),
@@ -349,9 +381,17 @@ def accepted_edges() -> Iterator[Case]:
             all_of(P - 1, t),
             all_of(P - 2 * t, t),
         ):
-            edge = deepcopy(case)
-            fault(edge)
-            yield edge
+            yield altered(case, change)
+
+
+def zeros_in_sets() -> Iterator[Case]:
+    """Each width with one zero in D, at each place, and with two, at all pairs of places."""
+    for t in (4, 8, 12):
+        case = seeded(t, t // 2, 0, 2, 0, 1)
+        for place in range(t):
+            yield altered(case, zeros(place))
+        for pair in combinations(range(t), 2):
+            yield faulted(case, (8, zeros(*pair)))
 
 
 BASES = [
@@ -381,22 +421,26 @@ def double_faults() -> Iterator[Case]:
 
 
 def entangled_faults() -> Iterator[Case]:
-    """7 to 9 where one is easily taken for another."""
+    """7 to 9, and D that is accepted, where one is easily taken for another."""
     for base in BASES:
-        t = base.width
-        # A zero, and the inverses of the others cancel.
-        zero = faulted(base, (8, all_of(P - (t - 1), t)))
-        zero.diagonal.write(0, 0)
-        yield zero
+        t, words = base.width, base.diagonal.numbers(LIST_DIAGONAL_PLACES)
+        # One zero, and the inverses of the others cancel: accepted.
+        for place in (0, 1, t - 1):
+            yield altered(base, *cancelling_beside(words, 2, place))
+        # Two zeros, and the inverses of the others cancel.
+        both = cancelling_beside(words, 2, 0, t - 1)
+        yield faulted(base, *((8, fault) for fault in both))
         # p + 1 for a 1, and as a 1 it would cancel with the others.
-        words = [1] + base.diagonal.numbers(LIST_DIAGONAL_PLACES)[1:]
-        yield faulted(base, (9, cancelling(words, t - 1)), (7, at("diagonal", 0, P + 1)))
-        # 0 and p both in D.
-        yield faulted(base, (7, at("diagonal", 1, P)), (8, at("diagonal", 0, 0)))
-        # D too long, and what is too much is p.
-        long = faulted(base, (6, longer("diagonal", 1)))
-        long.diagonal.write(t, P)
-        yield long
+        ones = [1] + words[1:]
+        yield faulted(base, (9, cancelling(ones, t - 1)), (7, at("diagonal", 0, P + 1)))
+        # 0 and p both in D: with one zero, and with two.
+        yield faulted(altered(base, zeros(0)), (7, at("diagonal", 1, P)))
+        yield faulted(base, (7, at("diagonal", 1, P)), (8, zeros(0, t - 1)))
+        # D too long, and what is too much is p; or it is a second zero.
+        for zero, more in (([], P), ([0], 0)):
+            long = faulted(altered(base, zeros(*zero)), (6, longer("diagonal", 1)))
+            long.diagonal.write(t, more)
+            yield long
 
 
 def sets_cases() -> Iterator[tuple[int, Case]]:
@@ -407,6 +451,7 @@ def sets_cases() -> Iterator[tuple[int, Case]]:
         widths_in_full,
         accepted_sets,
         accepted_edges,
+        zeros_in_sets,
         single_faults,
         double_faults,
         entangled_faults,
@@ -428,9 +473,10 @@ def published_states() -> Iterator[tuple[int, Case]]:
 
 
 def worked_states() -> Iterator[tuple[int, Case]]:
-    """T and U on (1,0,0,0)."""
+    """T, U and V on (1,0,0,0)."""
     yield (IN_FULL, case_t())
     yield (IN_FULL, case_u())
+    yield (IN_FULL, case_v())
 
 
 def states_in_full() -> Iterator[tuple[int, Case]]:
@@ -459,6 +505,21 @@ def unused_places() -> Iterator[tuple[int, Case]]:
             case = seeded(t, l, 1, 2 * (i % 5 + 1), 7 * i, 560 + 3 * i)
             case.beyond = beyond
             yield (DIGESTS, case)
+
+
+def zeros_in_states() -> Iterator[tuple[int, Case]]:
+    """Each width with a zero at each place of D; at some the others cancel beside it. The places
+    beyond D hold zeros too, or p."""
+    for t, l in ((4, 2), (8, 2), (12, 4)):
+        for place in range(t):
+            base = seeded(t, l, 1, 2, 1 + place % 3, 80 + place)
+            words = base.diagonal.numbers(LIST_DIAGONAL_PLACES)
+            yield (DIGESTS, altered(base, zeros(place)))
+            if place in (0, t // 2, t - 1):
+                case = altered(base, *cancelling_beside(words, (place + 1) % t, place))
+                case.beyond = P if place else 0
+                yield (IN_FULL, case)
+                yield (DIGESTS, case)
 
 
 STATE_BASES = [
@@ -517,6 +578,7 @@ def states_cases() -> Iterator[tuple[int, Case]]:
     yield from states_in_full()
     yield from seeded_states()
     yield from unused_places()
+    yield from zeros_in_states()
     for part in (refused_states, refused_nodes):
         for case in part():
             yield (DIGESTS, case)

@@ -36,18 +36,10 @@ from dataclasses import dataclass
 
 from field import P, SEVENTH_ROOT_EXPONENT
 from generator import drawn_numbers
+from matrices import Words, inverse_matrix, matrix_of, times
 from merkle import verdict_rows
 from parameters import ParameterSet, validate
-from poseidon2 import (
-    Words,
-    add,
-    cut,
-    external_layer,
-    inverse_matrix,
-    matrix_of,
-    subtract,
-    times,
-)
+from poseidon2 import add, cut, external_layer, subtract
 
 # Roots of polynomials modulo p. A polynomial is its coefficients, that of the
 # power 0 first; a divisor's last one is 1, and zero has none.

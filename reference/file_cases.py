@@ -25,6 +25,7 @@ from cases import (
     STATE_BASES,
     Case,
     Listed,
+    altered,
     case_t,
     case_u,
     changed,
@@ -34,6 +35,7 @@ from cases import (
     seeded,
     set_faults,
     turned,
+    zeros,
 )
 from field import P
 from files import WORD_BYTES, message
@@ -180,6 +182,13 @@ def unused_places() -> Iterator[Files]:
             yield Files(case, Listed(5 * i, i))
 
 
+def zeros_in_sets() -> Iterator[Files]:
+    """Every width and node size with a zero in D, at another place each time."""
+    for i, (t, l) in enumerate(SIZES):
+        case = altered(seeded(t, l, 1, 2, 1 + i % 3, 30 + 3 * i), zeros(i % t))
+        yield Files(case, Listed(9 * i, i))
+
+
 # Files with a fault.
 
 
@@ -226,6 +235,7 @@ PARTS = [
     same_bytes,
     long_lengths,
     unused_places,
+    zeros_in_sets,
     refused_sets,
     refused_leaves,
     refused_twice,

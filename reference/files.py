@@ -7,8 +7,9 @@ or ("refused", r).
 
 from collections.abc import Sequence
 
+from matrices import Words
 from parameters import ParameterSet, refusal_of_set
-from poseidon2 import Words, add, cut, permutation
+from poseidon2 import add, cut, permutation
 
 # How many bytes a word takes: b (Rules 7.8).
 WORD_BYTES = 7

@@ -3,10 +3,12 @@
 Refusals are tested by rising number, so the first that applies is the lowest.
 """
 
+from collections.abc import Sequence
 from dataclasses import dataclass
 from functools import lru_cache
 
-from field import P, is_word
+from field import is_word
+from matrices import Matrix, rank
 
 DIAGONAL_PLACES = 12
 CONSTANT_PLACES = 208
@@ -67,24 +69,26 @@ def refusal_of_numbers(
     return None
 
 
+def internal_matrix(diagonal: Sequence[int]) -> Matrix:
+    """M_I in full: D_i + 1 at place i of its diagonal, and 1 everywhere else (Rules 3.4)."""
+    width = len(diagonal)
+    return [[1 + d if j == i else 1 for j in range(width)] for i, d in enumerate(diagonal)]
+
+
 @lru_cache
-def inverses_cancel(diagonal: tuple[int, ...]) -> bool:
-    """9: the inverses of D's words and 1 add up to 0."""
-    total = 1
-    for d in diagonal:
-        total = (total + pow(d, -1, P)) % P
-    return total == 0
+def is_invertible(diagonal: tuple[int, ...]) -> bool:
+    """M_I has an inverse: its rank is t (Rules 2.3)."""
+    return rank(internal_matrix(diagonal)) == len(diagonal)
 
 
 def refusal_of_words(diagonal: list[int], constants: list[int]) -> int | None:
-    """7 to 9: the first that applies to the words of D and C, or None."""
+    """7 to 9: the first that applies to the words of D and C, or None. Whether D is refused is
+    decided by its matrix, and only with which number by its zeros (Rules 2.3)."""
     if not all(is_word(n) for n in diagonal + constants):
         return 7
-    if 0 in diagonal:
-        return 8
-    if inverses_cancel(tuple(diagonal)):
-        return 9
-    return None
+    if is_invertible(tuple(diagonal)):
+        return None
+    return 8 if diagonal.count(0) > 1 else 9
 
 
 def validate(

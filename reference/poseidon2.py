@@ -8,14 +8,11 @@ The functions above the entries take words of an accepted set. The entries
 ("words", list) or ("refused", r); they change none of the lists.
 """
 
-from operator import mul
 from typing import Callable
 
 from field import P, SEVENTH_ROOT_EXPONENT, all_words
+from matrices import Matrix, Words, inverse_matrix, matrix_of, times
 from parameters import ParameterSet, refusal_of_set, used_constants, used_diagonal
-
-Words = list[int]
-Matrix = list[list[int]]
 
 M4 = [
     [5, 7, 1, 3],
@@ -23,11 +20,6 @@ M4 = [
     [1, 3, 5, 7],
     [1, 1, 4, 6],
 ]
-
-
-def times(matrix: Matrix, words: Words) -> Words:
-    """A matrix applied to words: each row times the words, summed."""
-    return [sum(map(mul, row, words)) % P for row in matrix]
 
 
 def add(left: Words, right: Words) -> Words:
@@ -133,33 +125,6 @@ def compression(s: ParameterSet, x: Words) -> Words:
 
 # The inverse permutation undoes each step in the opposite order. The inverse
 # of a linear layer is found by elimination on its full t by t matrix.
-
-
-def matrix_of(layer: Callable[[Words], Words], width: int) -> Matrix:
-    """The t by t matrix of a linear layer; column i is the image of unit word i."""
-    columns = [
-        layer([1 if row == i else 0 for row in range(width)]) for i in range(width)
-    ]
-    return [list(row) for row in zip(*columns)]
-
-
-def inverse_matrix(matrix: Matrix) -> Matrix:
-    """Gaussian elimination modulo p on the matrix beside the identity."""
-    size = len(matrix)
-    rows = [
-        list(matrix[i]) + [1 if j == i else 0 for j in range(size)]
-        for i in range(size)
-    ]
-    for i in range(size):
-        pivot = next(r for r in range(i, size) if rows[r][i] != 0)
-        rows[i], rows[pivot] = rows[pivot], rows[i]
-        scale = pow(rows[i][i], -1, P)
-        rows[i] = [n * scale % P for n in rows[i]]
-        for r in range(size):
-            if r != i:
-                factor = rows[r][i]
-                rows[r] = [(a - factor * b) % P for a, b in zip(rows[r], rows[i])]
-    return [row[size:] for row in rows]
 
 
 def undo_full_round(constants: Words, external_inverse: Matrix, state: Words) -> Words:

@@ -11,10 +11,12 @@ from itertools import chain, combinations, permutations, product
 from unittest.mock import patch
 
 import cases
+import diagonal_cases
 import field
 import file_checks
 import history_cases
 import history_vectors
+import matrices
 import merkle
 import poseidon2
 import program
@@ -28,8 +30,10 @@ from parameters import (
     ParameterSet,
     arity,
     constant_count,
+    internal_matrix,
     leaf_count,
     refusal_of_set,
+    refusal_of_words,
     validate,
 )
 
@@ -38,6 +42,10 @@ Check = tuple[str, object, object]
 T_CONSTANTS = [0, 0, 0, 0, P - 505316, P - 410806, P - 127289, P - 94519]
 U_CONSTANTS = [0, 0, 0, 0] + [P - 505316]
 U_CONSTANTS += [P - 632615, P - 1454227, P - 1014482, P - 1010691]
+V_CONSTANTS = [0, 0, 0, 0] + [P - 505316]
+V_CONSTANTS += [P - 632614, P - 1043421, P - 887193, P - 916172]
+W_CONSTANTS = [0, 0, 0, 0] + [P - 505316]
+W_CONSTANTS += [P - 632614, 599803, P - 250748, P - 349058]
 T_NUMBERS = [4, 2, 1, 2, 0, 1, 2, 3, 4] + T_CONSTANTS
 
 
@@ -58,6 +66,16 @@ def set_u() -> ParameterSet:
     return accepted(4, 2, 1, 2, 1, [1, 2, 3, 4], U_CONSTANTS)
 
 
+def set_v() -> ParameterSet:
+    """The set V (Rules 9), which has a zero in D."""
+    return accepted(4, 2, 1, 2, 1, [0, 1, 2, 3], V_CONSTANTS)
+
+
+def set_w() -> ParameterSet:
+    """V with other words in D, whose inverses cancel beside the zero, and constants for these."""
+    return accepted(4, 2, 1, 2, 1, [0, P - 3, P - 3, P - 3], W_CONSTANTS)
+
+
 def seeded_words(rng: random.Random, count: int) -> list[int]:
     """Words for the seeded checks."""
     return [rng.randrange(P) for _ in range(count)]
@@ -66,16 +84,12 @@ def seeded_words(rng: random.Random, count: int) -> list[int]:
 def seeded_set(
     rng: random.Random, width: int, node_size: int, height: int, full: int, partial: int
 ) -> ParameterSet:
-    """A set with drawn words in D and C."""
-    return accepted(
-        width,
-        node_size,
-        height,
-        full,
-        partial,
-        [rng.randrange(1, P) for _ in range(width)],
-        seeded_words(rng, constant_count(width, full, partial)),
-    )
+    """A set with drawn words in D and C; now and then one word of D is 0."""
+    diagonal = [rng.randrange(1, P) for _ in range(width)]
+    if rng.randrange(4) == 0:
+        diagonal[rng.randrange(width)] = 0
+    constants = seeded_words(rng, constant_count(width, full, partial))
+    return accepted(width, node_size, height, full, partial, diagonal, constants)
 
 
 def built(s: ParameterSet, leaves: list[int]) -> list[int]:
@@ -112,7 +126,7 @@ def worked_field() -> Iterator[Check]:
 
 def worked_layers() -> Iterator[Check]:
     """The worked cases of M4, M_E, its halves and M_I."""
-    yield "M4", poseidon2.times(poseidon2.M4, [1, 0, 0, 0]), [5, 4, 1, 1]
+    yield "M4", matrices.times(poseidon2.M4, [1, 0, 0, 0]), [5, 4, 1, 1]
     got = poseidon2.external_layer([1, 0, 0, 0, 0, 0, 0, 0])
     yield "M_E, t=8", got, [10, 8, 2, 2, 5, 4, 1, 1]
     got = poseidon2.sums([1, 0, 0, 0, 0, 0, 0, 0])
@@ -124,13 +138,23 @@ def worked_layers() -> Iterator[Check]:
     yield "sums, t=4", poseidon2.sums([1, 2, 3, 4]), [1, 2, 3, 4]
     got = poseidon2.internal_layer(set_t().diagonal[:4], [1, 0, 0, 0])
     yield "M_I under T", got, [2, 1, 1, 1]
+    diagonal = set_v().diagonal[:4]
+    yield "M_I under V", poseidon2.internal_layer(diagonal, [4, 3, 2, 1]), [10, 13, 14, 13]
+    inverse = matrices.inverse_matrix(internal_matrix(diagonal))
+    yield "M_I undone under V", matrices.times(inverse, [10, 13, 14, 13]), [4, 3, 2, 1]
+    for state in ([1, 0, 0, 0], [0, 0, 1, 0]):
+        got = poseidon2.internal_layer([0, 1, 0, 3], state)
+        yield f"M_I of {state}, two zeros in D", got, [1, 1, 1, 1]
 
 
 def worked_permutation() -> Iterator[Check]:
-    """The worked permutations and compressions."""
-    for name, s in (("T", set_t()), ("U", set_u())):
+    """The worked permutations and compressions. The constants of V and W, like those of T and U,
+    leave the last round (1,0,0,0) to raise."""
+    for name, s in (("T", set_t()), ("U", set_u()), ("V", set_v()), ("W", set_w())):
         got = poseidon2.permute(s, [1, 0, 0, 0])
         yield f"permutation under {name}", got, ("words", [5, 4, 1, 1])
+        got = poseidon2.unpermute(s, [5, 4, 1, 1])
+        yield f"inverse permutation under {name}", got, ("words", [1, 0, 0, 0])
         got = poseidon2.compress(s, [1, 0, 0, 0], 2)
         yield f"compression under {name}", got, ("words", [6, 4])
 
@@ -158,6 +182,15 @@ def worked_validation() -> Iterator[Check]:
     """The worked cases of validation."""
     got = validate(4, 2, 1, 2, 0, [P - 4] * 4, T_CONSTANTS)
     yield "D all p-4", got, ("refused", 9)
+    yield "V", validate(4, 2, 1, 2, 1, [0, 1, 2, 3], V_CONSTANTS)[0], "set"
+    got = validate(4, 2, 1, 2, 0, [0, 2, 0, 4], T_CONSTANTS)
+    yield "T with D = 0,2,0,4", got, ("refused", 8)
+    for diagonal, number in (
+        ([0, 1, 2, 3], None),
+        ([0, 1, 0, 3], 8),
+        ([0, P - 3, P - 3, P - 3], None),
+    ):
+        yield f"8 and 9, D = {diagonal}", refusal_of_words(diagonal, []), number
     numbers = [1, 2, 3, 4], T_CONSTANTS
     yield "k=2, h=32", validate(4, 2, 32, 2, 0, *numbers)[0], "set"
     yield "k=2, h=33", validate(4, 2, 33, 2, 0, *numbers), ("refused", 5)
@@ -272,12 +305,18 @@ def validation_refusals() -> Iterator[Check]:
         (6, (4, 2, 1, 2, 0, d, c[:-1])),
         (6, (4, 2, 1, 2, 0, d, c + [0])),
         (7, (4, 2, 1, 2, 0, [0, 0, 0, P], c)),
+        (7, (4, 2, 1, 2, 0, [0, P, 1, 1], c)),
         (7, (4, 2, 1, 2, 0, [P - 4] * 4, c[:-1] + [P])),
-        (8, (4, 2, 1, 2, 0, [P - 1, 0, 1, 1], c)),
+        (8, (4, 2, 1, 2, 0, [P - 1, 0, 0, 1], c)),
+        (8, (4, 2, 1, 2, 0, [0, P - 2, P - 2, 0], c)),
+        (8, (4, 2, 1, 2, 0, [0, 0, 0, 0], c)),
         (9, (4, 2, 1, 2, 0, [P - 4] * 4, c)),
+        (9, (4, 2, 1, 2, 0, [1, P - 1, 1, (P - 1) // 2], c)),
     ]
     for number, arguments in cases:
         yield f"{number} for {arguments}", validate(*arguments), ("refused", number)
+    for one_zero in ([P - 1, 0, 1, 1], [0, P - 3, P - 3, P - 3], [1, 1, 1, 0]):
+        yield f"accepted with D = {one_zero}", validate(4, 2, 1, 2, 0, one_zero, c)[0], "set"
     s = set_t()
     yield "accepted D", s.diagonal, d + [0] * 8
     yield "accepted C", s.constants, c + [0] * 200
@@ -293,6 +332,8 @@ def handed_sets() -> Iterator[Check]:
     s.constants[8:] = [P] * 200
     yield "places beyond", refusal_of_set(s), None
     yield "still permutes", poseidon2.permute(s, [1, 0, 0, 0]), ("words", [5, 4, 1, 1])
+    s.diagonal = [1, 0, 3, 4] + [0] * 8
+    yield "one zero, and zeros beyond", refusal_of_set(s), None
     changes = [
         (1, "width", 6),
         (2, "node_size", 0),
@@ -301,7 +342,7 @@ def handed_sets() -> Iterator[Check]:
         (5, "height", 33),
         (7, "diagonal", [P] + [1] * 11),
         (7, "constants", [P] + [0] * 207),
-        (8, "diagonal", [0] + [1] * 11),
+        (8, "diagonal", [0, 1, 1, 0] + [1] * 8),
         (9, "diagonal", [P - 4] * 12),
     ]
     for number, name, value in changes:
@@ -319,7 +360,7 @@ def halves_of_external() -> Iterator[Check]:
     """The sums and then M4 in each block are M_E, and so are they the other way round."""
     rng = random.Random(20)
     for width in (4, 8, 12):
-        states = [[P - 1] * width, *poseidon2.matrix_of(list, width)]
+        states = [[P - 1] * width, *matrices.identity(width)]
         states += [seeded_words(rng, width) for _ in range(200)]
         for i, state in enumerate(states):
             layer = poseidon2.external_layer(state)
@@ -330,17 +371,135 @@ def halves_of_external() -> Iterator[Check]:
 
 
 def inverse_permutations() -> Iterator[Check]:
-    """The permutation and its inverse undo each other."""
+    """The permutation and its inverse undo each other, also with a zero at any place of D."""
     rng = random.Random(2)
     for width in (4, 8, 12):
         for full, partial in ((2, 0), (4, 3), (12, 64)):
             s = seeded_set(rng, width, 2, 1, full, partial)
-            state = seeded_words(rng, width)
-            name = f"t={width}, R_F={full}, R_P={partial}"
-            _, after = poseidon2.permute(s, state)
-            yield name, poseidon2.unpermute(s, after), ("words", state)
-            _, before = poseidon2.unpermute(s, state)
-            yield name + " back", poseidon2.permute(s, before), ("words", state)
+            yield from undone_permutation(rng, f"t={width}, R_F={full}, R_P={partial}", s)
+        for place in range(width):
+            s = seeded_set(rng, width, 2, 1, 2, 1 + place)
+            s.diagonal[:width] = [rng.randrange(1, P) for _ in range(width)]
+            s.diagonal[place] = 0
+            yield from undone_permutation(rng, f"t={width}, D_{place}=0", s)
+
+
+def undone_permutation(rng: random.Random, name: str, s: ParameterSet) -> Iterator[Check]:
+    """A drawn state, permuted and back, and the other way round."""
+    state = seeded_words(rng, s.width)
+    _, after = poseidon2.permute(s, state)
+    yield name, poseidon2.unpermute(s, after), ("words", state)
+    _, before = poseidon2.unpermute(s, state)
+    yield name + " back", poseidon2.permute(s, before), ("words", state)
+
+
+# Matrices, and what of D leaves M_I an inverse.
+
+
+def elimination() -> Iterator[Check]:
+    """Ranks and inverses that are known, where a pivot stands in another row too, and M4's."""
+    for matrix, rank in [
+        ([[0, 0], [0, 0]], 0),
+        ([[0, 0], [5, 0]], 1),
+        ([[1, 2], [2, 4]], 1),
+        ([[0, 1], [1, 0]], 2),
+        ([[0, 1, 2], [0, 3, 6], [0, 0, 1]], 2),
+        ([[0, 0, 1], [1, 0, 0], [0, 1, 0]], 3),
+        ([[1, 1, 1], [1, 1, 1], [1, 1, 2]], 2),
+        ([[P, 1], [1, P]], 2),
+        ([[P - 1, 1], [1, P - 1]], 1),
+    ]:
+        yield f"rank of {matrix}", matrices.rank(matrix), rank
+    turn = [[0, 1, 0], [0, 0, 1], [1, 0, 0]]
+    yield "inverse of a turn", matrices.inverse_matrix(turn), [[0, 0, 1], [1, 0, 0], [0, 1, 0]]
+    eight = [[-1, 3, -6, 7], [1, -1, 4, -5], [-6, 7, -1, 3], [4, -5, 1, -1]]
+    eighth = [[n * pow(8, -1, P) % P for n in row] for row in eight]
+    yield "inverse of M4", matrices.inverse_matrix(poseidon2.M4), eighth
+    rng = random.Random(24)
+    for size in (4, 8, 12):
+        for rank in range(1, size + 1):
+            left = [seeded_words(rng, rank) for _ in range(size)]
+            right = [seeded_words(rng, size) for _ in range(rank)]
+            made = matrices.product(left, right)
+            yield f"rank {rank} of {size}", matrices.rank(made), rank
+
+
+def rows_8_and_9(diagonal: list[int]) -> int | None:
+    """What the two rows say of D, without a matrix (Rules 8.1)."""
+    if diagonal.count(0) >= 2:
+        return 8
+    if diagonal.count(0) == 0 and (1 + sum(pow(d, -1, P) for d in diagonal)) % P == 0:
+        return 9
+    return None
+
+
+def undone_words(diagonal: list[int], image: list[int]) -> list[int]:
+    """M_I undone word by word: by the sum, which the image has at the place of a zero, or else by
+    the inverses of D (Rules 7.3)."""
+    if 0 in diagonal:
+        place = diagonal.index(0)
+        total = image[place]
+        words = [(y - total) * pow(d, -1, P) % P if d else 0 for y, d in zip(image, diagonal)]
+        words[place] = (total - sum(words)) % P
+        return words
+    inverses = [pow(d, -1, P) for d in diagonal]
+    weighed = sum(e * y for e, y in zip(inverses, image))
+    total = weighed * pow(1 + sum(inverses), -1, P) % P
+    return [e * (y - total) % P for e, y in zip(inverses, image)]
+
+
+def two_alike(diagonal: list[int]) -> tuple[list[int], list[int]]:
+    """Two states to which a D that is refused gives one image: the unit words at two zeros; or the
+    inverses of D, and zeros."""
+    if 0 in diagonal:
+        units = matrices.identity(len(diagonal))
+        first, second, *_ = (unit for unit, d in zip(units, diagonal) if d == 0)
+        return (first, second)
+    return ([pow(d, -1, P) for d in diagonal], [0] * len(diagonal))
+
+
+def diagonal_checks(name: str, diagonal: list[int], state: list[int]) -> Iterator[Check]:
+    """The rank of M_I and the rows decide alike. Accepted, M_I is undone; refused, it can't be."""
+    full, unit = internal_matrix(diagonal), matrices.identity(len(diagonal))
+    number, by_rows = refusal_of_words(diagonal, []), rows_8_and_9(diagonal)
+    yield name, number, by_rows
+    if number != by_rows:
+        return
+    if number is None:
+        inverse = matrices.inverse_matrix(full)
+        yield name + ", inverse first", matrices.product(full, inverse), unit
+        yield name + ", inverse last", matrices.product(inverse, full), unit
+        yield name + ", undone", undone_words(diagonal, state), matrices.times(inverse, state)
+        image = poseidon2.internal_layer(diagonal, state)
+        yield name + ", back", undone_words(diagonal, image), state
+    else:
+        first, second = two_alike(diagonal)
+        images = [poseidon2.internal_layer(diagonal, words) for words in (first, second)]
+        yield name + ", states", first != second, True
+        yield name + ", one image", images[0], images[1]
+
+
+def diagonals() -> Iterator[Check]:
+    """The cases of diagonal_vectors; and that every kind of D is among them, at every width often
+    and with the zero at every place."""
+    kinds: dict[tuple[int, int, bool], int] = {}
+    places: dict[tuple[int, int], int] = {}
+    for n, case in enumerate(diagonal_cases.all_diagonals()):
+        t, diagonal = case.width, case.diagonal.numbers(cases.LIST_DIAGONAL_PLACES)
+        yield from diagonal_checks(f"{n}, {diagonal}", diagonal, case.state.numbers(t))
+        empty = [i for i, d in enumerate(diagonal) if d == 0]
+        cancels = (1 + sum(pow(d, -1, P) for d in diagonal if d != 0)) % P == 0
+        kind = (t, min(len(empty), 3), cancels)
+        kinds[kind] = kinds.get(kind, 0) + 1
+        if len(empty) == 1:
+            places[t, empty[0]] = places.get((t, empty[0]), 0) + 1
+    for t, count, cancels in product((4, 8, 12), range(4), (False, True)):
+        if (count, cancels) != (3, True):
+            name = f"t={t}, {count} zeros, {'' if cancels else 'not '}cancelling"
+            yield name, kinds.get((t, count, cancels), 0) >= 100, True
+    for t in (4, 8, 12):
+        for place in range(t):
+            yield f"t={t}, one zero, at {place}", places.get((t, place), 0) >= 20, True
 
 
 # Width, node size and height.
@@ -881,6 +1040,8 @@ GROUPS = [
     ("handed sets", handed_sets),
     ("halves of M_E", halves_of_external),
     ("inverse permutations", inverse_permutations),
+    ("elimination", elimination),
+    ("diagonals", diagonals),
     ("vectors' cases", vectors_cases),
     ("tree_vectors' cases", tree_vectors_cases),
     ("replacements", replacements),

@@ -36,6 +36,7 @@ from collections.abc import Callable, Iterator
 from copy import deepcopy
 from dataclasses import dataclass
 from functools import cache
+from itertools import chain
 
 import collisions
 from cases import (
@@ -48,6 +49,7 @@ from cases import (
     seeded,
     set_faults,
     turned,
+    zeros,
 )
 from collisions import Collision, Search
 from field import P
@@ -143,6 +145,14 @@ def seeded_trees() -> Iterator[Tree]:
             yield seeded_tree(t, l, h, 2 + 2 * (h % 2), h % 3, i)
 
 
+def trees_with_a_zero() -> Iterator[Tree]:
+    """Every width and node size with a zero in D, at another place each time."""
+    for i, (t, l) in enumerate(SIZES):
+        tree = seeded_tree(t, l, 1 + i % 2, 2, 1 + i % 3, 30 + i)
+        zeros(i % t)(tree.case)
+        yield tree
+
+
 # A fault of a call: the list that is longer or shorter, or has a number that is no word.
 
 CallFault = tuple[str, int, int | None]
@@ -216,7 +226,7 @@ def refused_sets() -> Iterator[Calls]:
 def trees_cases() -> Iterator[tuple[int, Tree | Calls]]:
     """The section `trees`."""
     yield (TREE_IN_FULL, tree_t())
-    for tree in seeded_trees():
+    for tree in chain(seeded_trees(), trees_with_a_zero()):
         yield (TREE, tree)
     for part in (refused_lengths, refused_places, refused_words, refused_twice, refused_sets):
         for calls in part():
@@ -344,6 +354,16 @@ def seeded_replacements() -> Iterator[Replacements]:
             yield Replacements(tree, [*calls, *unread_faults(caller)])
 
 
+def replacements_with_a_zero() -> Iterator[Replacements]:
+    """Each width with a zero in D: calls that are done, and one that is refused."""
+    for i, (t, l) in enumerate(((4, 2), (8, 4), (12, 4))):
+        tree = seeded_tree(t, l, 2, 2, 1 + i, 50 + i)
+        zeros(i)(tree.case)
+        caller = Caller(tree, 900 + i)
+        calls = [caller.call(caller.place()), caller.faulty(11, tree.places), caller.call(0)]
+        yield Replacements(tree, calls)
+
+
 def replacements_in_refused_sets() -> Iterator[Replacements]:
     """A set that is refused, for a call without a fault and for one with a fault more."""
     for number, ways in set_faults(seeded(4, 2, 1, 2, 0, 5)).items():
@@ -356,7 +376,7 @@ def replacements_in_refused_sets() -> Iterator[Replacements]:
 
 def replacements_cases() -> Iterator[tuple[int, Replacements]]:
     """The section `replacements`."""
-    for part in (seeded_replacements, replacements_in_refused_sets):
+    for part in (seeded_replacements, replacements_with_a_zero, replacements_in_refused_sets):
         for replacements in part():
             yield (REPLACEMENTS, replacements)
 
