@@ -52,7 +52,8 @@ fn bad_height(arity: u64, height: u64) -> bool {
     false
 }
 
-/// Whether 9 refuses D: 1 and the inverses of its words, added up, times the product of the words; so without an inversion.
+/// Whether 9 refuses a D with one 0 at most: 1 and the inverses of its words, added up, times the product of the words; so without an
+/// inversion. With a 0 the product of the other words is left.
 fn bad_diagonal<V: Version>(diagonal: &[u64]) -> bool {
     let (mut all, mut but_one) = (1, 0);
     for &d in diagonal {
@@ -87,7 +88,7 @@ pub fn validate<V: Version>(set: &Set) -> u8 {
     if !all_words(set.diagonal) || !all_words(set.constants) {
         return 7;
     }
-    if set.diagonal.contains(&0) {
+    if set.diagonal.iter().filter(|&&d| d == 0).count() > 1 {
         return 8;
     }
     if bad_diagonal::<V>(set.diagonal) {

@@ -6,8 +6,9 @@
  *
  * A PARAMETER SET is handed in with every call, as nine arguments (OPENING_TREE_SET below): width t, node_size l, height h,
  * full_rounds R_F, partial_rounds R_P, diagonal D of t words, and constants C of t * R_F + R_P words. Below k = t / l.
- * D is the diagonal less one: word i after the internal layer is D_i times itself plus the sum of the state. C is in order of use: t words
- * for each full round of the first half, one for each partial round, t for each full round of the second half.
+ * D is the diagonal less one: word i after the internal layer is D_i times itself plus the sum of the state. The layer has to have an
+ * inverse, which 8 and 9 below see to: one word of D may be 0, but no two. C is in order of use: t words for each full round of the first
+ * half, one for each partial round, t for each full round of the second half.
  * Choosing a safe set is the caller's part; opening_tree_published.h has the Poseidon2 authors' instances to start from.
  *
  * A TREE. A node is l words; a row is k nodes side by side, t words. The compression of a row adds its input: it is the first l words of
@@ -64,8 +65,8 @@ extern "C" {
 #define OPENING_TREE_BAD_HEIGHT 5          /* h is above 32, or k^h above 2^32 */
 #define OPENING_TREE_BAD_LIST_LENGTH 6     /* D or C is of another length */
 #define OPENING_TREE_BAD_LIST_WORD 7       /* a number of D or C is not a word */
-#define OPENING_TREE_ZERO_IN_DIAGONAL 8    /* a word of D is 0 */
-#define OPENING_TREE_SINGULAR_DIAGONAL 9   /* the inverses of D sum to -1 */
+#define OPENING_TREE_ZERO_IN_DIAGONAL 8    /* two or more words of D are 0 */
+#define OPENING_TREE_SINGULAR_DIAGONAL 9   /* no word of D is 0, and 1 plus their inverses is 0 */
 #define OPENING_TREE_BAD_LENGTH 10         /* another buffer is not of its exact length, or a push has over 2^32 records */
 #define OPENING_TREE_BAD_PLACE 11          /* a place is not below k^h, or a level not below h */
 #define OPENING_TREE_NOT_A_WORD 12         /* a number handed in is not a word */

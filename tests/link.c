@@ -12,6 +12,7 @@
 static const uint64_t diagonal[4] = {1, 2, 3, 4};
 static const uint64_t constants[8] = {0, 0, 0, 0, P - 505316, P - 410806, P - 127289, P - 94519};
 static const uint64_t singular[4] = {P - 4, P - 4, P - 4, P - 4};
+static const uint64_t two_zeros[4] = {0, 2, 0, 4};
 
 /* Small numbers, to be worked with by hand, and not safe; and the same with the heights 0, 3 and 8. */
 #define T 4, 2, 1, 2, 0, diagonal, 4, constants, 8
@@ -19,8 +20,9 @@ static const uint64_t singular[4] = {P - 4, P - 4, P - 4, P - 4};
 #define HIGH 4, 2, 3, 2, 0, diagonal, 4, constants, 8
 #define HIGHER 4, 2, 8, 2, 0, diagonal, 4, constants, 8
 
-/* The set that a function here was handed as OPENING_TREE_SET. */
-#define HANDED width, node_size, height, full_rounds, partial_rounds, diagonal, diagonal_count, constants, constants_count
+/* The set that a function here was handed as OPENING_TREE_SET; and with another D. */
+#define HANDED HANDED_WITH(diagonal)
+#define HANDED_WITH(list) width, node_size, height, full_rounds, partial_rounds, list, diagonal_count, constants, constants_count
 
 static int passed, failed;
 
@@ -108,7 +110,7 @@ static int refuses_sizes(OPENING_TREE_SET, uint8_t number) {
 }
 
 static void sizes(void) {
-    const uint64_t zero[4] = {1, 2, 0, 4}, no_word[4] = {1, 2, 0, P};
+    const uint64_t no_word[4] = {1, 0, 0, P};
     expect("sizes, T", has_sizes(T, 4, 6, 2));
     expect("sizes, h = 0", has_sizes(LOW, 2, 2, 0));
     expect("sizes, k = 3", has_sizes(OPENING_TREE_PUBLISHED_12(4, 2), 9 * 4, (9 + 3 + 1) * 4, 2 * 2 * 4));
@@ -124,8 +126,93 @@ static void sizes(void) {
     expect("no sizes, three words of D", refuses_sizes(4, 2, 1, 2, 0, no_word, 3, constants, 8, 6));
     expect("no sizes, seven words of C", refuses_sizes(4, 2, 1, 2, 0, no_word, 4, constants, 7, 6));
     expect("no sizes, p in D", refuses_sizes(4, 2, 1, 2, 0, no_word, 4, constants, 8, 7));
-    expect("no sizes, 0 in D", refuses_sizes(4, 2, 1, 2, 0, zero, 4, constants, 8, 8));
+    expect("no sizes, two zeros in D", refuses_sizes(4, 2, 1, 2, 0, two_zeros, 4, constants, 8, 8));
     expect("no sizes, singular", refuses_sizes(4, 2, 1, 2, 0, singular, 4, constants, 8, 9));
+}
+
+/* Sets with one zero in D. Of (1, 0, 0, 0) the internal layer finds (1, 410806, 127289, 94519), whose sum is 632615, and under V leaves
+   (632615, 1043421, 887193, 916172). The last round's constants make (1, 0, 0, 0) of that, and M_E (5, 4, 1, 1). So they do under
+   CANCELLING, where 1 plus the inverses of the words other than 0 is 0, of (632615, -599803, 250748, 349058). */
+#define V 4, 2, 1, 2, 1, one_zero, 4, one_zero_constants, 9
+#define CANCELLING 4, 2, 1, 2, 1, cancelling, 4, cancelling_constants, 9
+static const uint64_t one_zero[4] = {0, 1, 2, 3}, cancelling[4] = {0, P - 3, P - 3, P - 3};
+static const uint64_t one_zero_constants[9] = {0, 0, 0, 0, P - 505316, P - 632614, P - 1043421, P - 887193, P - 916172};
+static const uint64_t cancelling_constants[9] = {0, 0, 0, 0, P - 505316, P - 632614, 599803, P - 250748, P - 349058};
+
+/* The state (1, 0, 0, 0) and back, and the tree of (1, 0) and (0, 0); then a state there and back, and the other way round. */
+static void under_a_zero(OPENING_TREE_SET) {
+    const uint64_t first[4] = {1, 0, 0, 0}, permuted[4] = {5, 4, 1, 1}, built[6] = {1, 0, 0, 0, 6, 4}, other[4] = {P - 1, 7, 0, 1};
+    uint64_t state[4] = {1, 0, 0, 0}, moved[4] = {P - 1, 7, 0, 1}, node[2] = {9, 9}, store[6] = {0};
+    expect("one zero: validate", opening_tree_validate(HANDED) == 0);
+    expect("one zero: sizes", has_sizes(HANDED, 4, 6, 2));
+    expect("one zero: permute", opening_tree_permute(HANDED, state, 4) == 0 && same(state, permuted, 4));
+    expect("one zero: unpermute", opening_tree_unpermute(HANDED, state, 4) == 0 && same(state, first, 4));
+    expect("one zero: compress", opening_tree_compress(HANDED, first, 4, node, 2) == 0 && same(node, built + 4, 2));
+    expect("one zero: build", opening_tree_build(HANDED, first, 4, store, 6) == 0 && same(store, built, 6));
+    expect("one zero: verify", opening_tree_verify(HANDED, built + 4, 2, 1, first + 2, 2, first, 2) == OPENING_TREE_ACCEPTED);
+    expect("one zero: there", opening_tree_permute(HANDED, moved, 4) == 0 && !same(moved, other, 4));
+    expect("one zero: and back", opening_tree_unpermute(HANDED, moved, 4) == 0 && same(moved, other, 4));
+    expect("one zero: back", opening_tree_unpermute(HANDED, moved, 4) == 0 && !same(moved, other, 4));
+    expect("one zero: and there", opening_tree_permute(HANDED, moved, 4) == 0 && same(moved, other, 4));
+}
+
+/* A zero at each place of the published sets' diagonals, which then permute otherwise, and back. Two at any two places are refused. */
+static void zeros_at_places(OPENING_TREE_SET) {
+    uint64_t given[12], state[12], other[12], changed[12];
+    for (uint64_t i = 0; i < width; i++) given[i] = other[i] = P - 1 - i;
+    expect("no zero", opening_tree_permute(HANDED, other, width) == 0);
+    for (uint64_t i = 0; i < width; i++) {
+        memcpy(changed, diagonal, width * sizeof *changed);
+        memcpy(state, given, width * sizeof *state);
+        changed[i] = 0;
+        expect("a zero: permute", opening_tree_permute(HANDED_WITH(changed), state, width) == 0 && !same(state, other, width));
+        expect("a zero: unpermute", opening_tree_unpermute(HANDED_WITH(changed), state, width) == 0 && same(state, given, width));
+        for (uint64_t j = 0; j < i; j++) {
+            changed[j] = 0;
+            expect("two zeros: validate", opening_tree_validate(HANDED_WITH(changed)) == OPENING_TREE_ZERO_IN_DIAGONAL);
+            expect("two zeros: kept", opening_tree_unpermute(HANDED_WITH(changed), state, width) == 8 && same(state, given, width));
+            changed[j] = diagonal[j];
+        }
+    }
+}
+
+/* Two zeros are refused by every function, and every buffer holds what it held. */
+#define TWO_ZEROS 4, 2, 1, 2, 0, two_zeros, 4, constants, 8
+
+static void refuses_two_zeros(void) {
+    const uint64_t given[6] = {1, 0, 0, 0, 6, 4}, kept[6] = {9, 9, 9, 9, 9, 9}, others_cancel[4] = {0, P - 2, P - 2, 0};
+    const opening_tree_record record = {1, {5, 6, 0, 0, 0, 0}};
+    const uint8_t contents[1] = {7};
+    uint64_t a[6] = {9, 9, 9, 9, 9, 9}, b[6] = {9, 9, 9, 9, 9, 9}, made = 99, level = 99;
+    expect("two zeros: validate", opening_tree_validate(TWO_ZEROS) == 8);
+    expect("two zeros, and the others cancel", opening_tree_validate(4, 2, 1, 2, 0, others_cancel, 4, constants, 8) == 8);
+    expect("two zeros: sizes", refuses_sizes(TWO_ZEROS, 8));
+    expect("two zeros: permute", opening_tree_permute(TWO_ZEROS, a, 4) == 8);
+    expect("two zeros: unpermute", opening_tree_unpermute(TWO_ZEROS, a, 4) == 8);
+    expect("two zeros: compress", opening_tree_compress(TWO_ZEROS, given, 4, a, 2) == 8);
+    expect("two zeros: build", opening_tree_build(TWO_ZEROS, given, 4, a, 6) == 8);
+    expect("two zeros: root", opening_tree_root(TWO_ZEROS, given, 6, a, 2) == 8);
+    expect("two zeros: storeless root", opening_tree_storeless_root(TWO_ZEROS, given, 4, a, 2) == 8);
+    expect("two zeros: open", opening_tree_open(TWO_ZEROS, given, 6, 1, a, 2) == 8);
+    expect("two zeros: verify", opening_tree_verify(TWO_ZEROS, given + 4, 2, 1, given + 2, 2, given, 2) == 8);
+    expect("two zeros: read level", opening_tree_read_level(TWO_ZEROS, given, 2, 0, a + 2, 2) == 8);
+    expect("two zeros: replace", opening_tree_replace(TWO_ZEROS, a, 6, 1, given, 2, &made) == 8);
+    expect("two zeros: push", opening_tree_push(TWO_ZEROS, a, 6, &record, 1, &made) == 8);
+    expect("two zeros: push, numbers", opening_tree_push_numbers(TWO_ZEROS, a, 6, &record.place, 7, &made) == 8);
+    expect("two zeros: extract", opening_tree_extract(TWO_ZEROS, given + 4, 2, 1, given + 2, 2, given, 2, given + 2, 2, given, 2, a, 4, b,
+                                                      4, &level) == 8);
+    expect("two zeros: leaf of a file", opening_tree_leaf_of_file(TWO_ZEROS, contents, 1, a, 2) == 8);
+    expect("two zeros: nothing is written", same(a, kept, 6) && same(b, kept, 6) && made == 99 && level == 99);
+}
+
+static void zeros(void) {
+    static const uint64_t places[4][4] = {{0, 2, 3, 4}, {1, 0, 3, 4}, {1, 2, 0, 4}, {1, 2, 3, 0}};
+    for (int i = 0; i < 4; i++) expect("a zero at each place", opening_tree_validate(4, 2, 1, 2, 0, places[i], 4, constants, 8) == 0);
+    under_a_zero(V);
+    under_a_zero(CANCELLING);
+    zeros_at_places(OPENING_TREE_PUBLISHED_8(4, 1));
+    zeros_at_places(OPENING_TREE_PUBLISHED_12(4, 1));
+    refuses_two_zeros();
 }
 
 /* A tree in buffers that are made by the sizes: these are the counts that the other functions take, and one more or less is refused. */
@@ -486,6 +573,7 @@ int main(void) {
     states();
     published();
     sizes();
+    zeros();
     buffers(T);
     buffers(LOW);
     buffers(OPENING_TREE_PUBLISHED_12(4, 2));

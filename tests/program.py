@@ -126,6 +126,11 @@ def words_changed() -> Iterator[Input]:
     yield "refusal 9, and a leaf too many", packed(cancelling + [0, 0])
     yield "a leaf too many, and one not a word", packed(worked() + [P, 0])
     yield "a zero in D, and C not words", packed(changed(changed(worked(), 5, 0), 9, P))
+    for t, l in SHAPES:
+        yield f"a zero in D, t={t} l={l}", packed(changed(drawn(l, t, l, 1, 2, 3), 5 + l, 0))
+    zeros = changed(changed(worked(), 5, 0), 7, 0)
+    yield "two zeros in D", packed(zeros)
+    yield "two zeros in D, and a leaf not a word", packed(changed(zeros, 17, P))
 
 
 def seeded_damage() -> Iterator[Input]:

@@ -45,7 +45,8 @@ pub struct SetNumbers<'a> {
     pub full_rounds: u64,
     /// R_P
     pub partial_rounds: u64,
-    /// D: t words, the diagonal of the internal matrix less one.
+    /// D: t words, the diagonal of the internal matrix less one. The matrix has to have an inverse: refusals 8 and 9. So one word of D may
+    /// be 0, and no two.
     pub diagonal: &'a [u64],
     /// C: t × R_F + R_P words in order of use.
     pub constants: &'a [u64],
@@ -453,7 +454,7 @@ mod tests {
             SetNumbers { height: 33, ..SMALL },
             SetNumbers { constants: &[0; 7], ..SMALL },
             SetNumbers { constants: &[P; 8], ..SMALL },
-            SetNumbers { diagonal: &[1, 2, 0, 4], ..SMALL },
+            SetNumbers { diagonal: &[0, 2, 0, 4], ..SMALL },
             SetNumbers { diagonal: &[P - 4; 4], ..SMALL },
         ];
         for (set, refusal) in sets.into_iter().zip(1..) {

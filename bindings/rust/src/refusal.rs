@@ -31,9 +31,9 @@ pub enum Refusal {
     BadListLength = 6,
     /// A number of the diagonal or the constants is not a word.
     BadListWord = 7,
-    /// A word of the diagonal is 0.
+    /// Two or more words of the diagonal are 0. One may be.
     ZeroInDiagonal = 8,
-    /// 1 plus the inverses of the diagonal is 0.
+    /// No word of the diagonal is 0, and 1 plus their inverses is 0.
     SingularDiagonal = 9,
     /// Another buffer is not of its exact length, or a push has over 2^32 records.
     BadLength = 10,
@@ -96,8 +96,8 @@ impl fmt::Display for Refusal {
             Refusal::BadHeight => "the height is above 32, or the leaves are more than 2^32",
             Refusal::BadListLength => "the diagonal or the constants are of wrong length",
             Refusal::BadListWord => "a number in the diagonal or the constants is not below p",
-            Refusal::ZeroInDiagonal => "a word of the diagonal is 0",
-            Refusal::SingularDiagonal => "the inverses of the diagonal sum to -1",
+            Refusal::ZeroInDiagonal => "two or more words of the diagonal are 0",
+            Refusal::SingularDiagonal => "no word of the diagonal is 0, and 1 plus their inverses is 0",
             Refusal::BadLength => "a buffer is not of its exact length, or a push has over 2^32 records",
             Refusal::BadPlace => "a place is not below the number of leaves, or a level not below the height",
             Refusal::NotAWord => "a number handed in is not a word",

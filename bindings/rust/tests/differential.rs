@@ -9,7 +9,7 @@ use opening_tree::{ParameterSet, Record};
 use support::calls::{numbers, Answer, Call, Entry};
 use support::cases::{call, greatest_height, nodes_above, places_under, records, set_for, set_of, SHAPES};
 use support::collisions::{collision, Collision, Kind};
-use support::damage::{damage, EDGES};
+use support::damage::{cancelling_word, damage, EDGES};
 use support::generator::Generator;
 use support::tally::Tally;
 
@@ -25,6 +25,7 @@ fn library_answers_as_the_model() {
     let [drawn, _] = tally.pushes();
     heights(generator, tally);
     edges_of_sets(generator, tally);
+    zeros_of_sets(generator, tally);
     edges_of_calls(generator, tally);
     let [at_edges, _] = tally.pushes();
     long_pushes(generator, tally);
@@ -87,6 +88,38 @@ fn edges_of_sets(generator: &mut Generator, tally: &mut Tally) {
                     let mut call = call.clone();
                     call.set.constants[i] = edge;
                     tally.compare(call);
+                }
+            }
+        }
+    }
+}
+
+/// One zero at every place of the diagonal, also where the other words cancel beside it, is taken. Two are refused at every two places, and
+/// words that cancel without a zero are refused.
+fn zeros_of_sets(generator: &mut Generator, tally: &mut Tally) {
+    for shape in [(4, 1), (8, 2), (12, 6)] {
+        for entry in Entry::ALL.into_iter().filter(|entry| !entry.is_of_field()) {
+            let mut set = set_of(generator, shape, 1, 2, 3);
+            set.diagonal.fill_with(|| generator.non_zero_word());
+            let call = done_call(generator, entry, set);
+            let mut answer = |diagonal: &[u64]| {
+                let set = Set { diagonal: diagonal.to_vec(), ..call.set.clone() };
+                tally.compare(Call { set, ..call.clone() })
+            };
+            for i in 0..call.set.diagonal.len() {
+                let mut diagonal = call.set.diagonal.clone();
+                diagonal[i] = cancelling_word(&diagonal, i).expect("drawn words don't cancel");
+                assert_eq!(answer(&diagonal), Answer::Refused(9), "{diagonal:?}");
+                diagonal[i] = 0;
+                assert!(!matches!(answer(&diagonal), Answer::Refused(1..=9)), "{diagonal:?}");
+                let mut beside = diagonal.clone();
+                let other = (i + 1) % beside.len();
+                beside[other] = cancelling_word(&beside, other).expect("drawn words don't cancel");
+                assert!(!matches!(answer(&beside), Answer::Refused(1..=9)), "{beside:?}");
+                for j in 0..i {
+                    diagonal[j] = 0;
+                    assert_eq!(answer(&diagonal), Answer::Refused(8), "{diagonal:?}");
+                    diagonal[j] = call.set.diagonal[j];
                 }
             }
         }

@@ -4,8 +4,6 @@
 mod model;
 mod support;
 
-use std::process::Command;
-
 use model::field::P;
 use model::set::Set;
 use opening_tree::entries::{self, record_numbers};
@@ -13,17 +11,9 @@ use opening_tree::{ParameterSet, Record, Refusal, Tree};
 use support::calls::numbers;
 use support::cases::{nodes_above, places_under, refused_sets, set_of, small, SHAPES};
 use support::generator::Generator;
-use support::reference::Input;
+use support::reference::{printed, Input};
 
 const SEED: u64 = 17;
-
-/// What a script of the reference prints.
-fn printed(script: &str) -> String {
-    let path = format!("{}/../../reference/{script}", env!("CARGO_MANIFEST_DIR"));
-    let output = Command::new("python3").arg(&path).output().unwrap_or_else(|error| panic!("python3 {path}: {error}"));
-    assert!(output.status.success(), "python3 {path}: {}", String::from_utf8_lossy(&output.stderr));
-    String::from_utf8(output.stdout).expect("text")
-}
 
 /// The records of a flat list.
 fn records(list: &[u64]) -> Vec<Record> {

@@ -28,6 +28,20 @@ const U: SetNumbers = SetNumbers {
     ..T
 };
 
+/// The set V, likewise, with a zero in its diagonal.
+const V: SetNumbers = SetNumbers {
+    diagonal: &[0, 1, 2, 3],
+    constants: &[0, 0, 0, 0, P - 505316, P - 632614, P - 1043421, P - 887193, P - 916172],
+    ..U
+};
+
+/// V with others beside the zero, of whose inverses and 1 the sum is 0, and with constants for these.
+const W: SetNumbers = SetNumbers {
+    diagonal: &[0, P - 3, P - 3, P - 3],
+    constants: &[0, 0, 0, 0, P - 505316, P - 632614, 599803, P - 250748, P - 349058],
+    ..U
+};
+
 /// A set that was made for two leaves which are both accepted at one place, and so is not safe.
 const WEAK: SetNumbers = SetNumbers {
     height: 2,
@@ -76,6 +90,10 @@ fn layers_of_the_model() {
     assert_eq!(external_layer(&[1, 0, 0, 0]), [5, 4, 1, 1]);
     assert_eq!(external_layer(&[1, 0, 0, 0, 0, 0, 0, 0]), [10, 8, 2, 2, 5, 4, 1, 1]);
     assert_eq!(internal_layer(T.diagonal, &[1, 0, 0, 0]), [2, 1, 1, 1]);
+    assert_eq!(internal_layer(V.diagonal, &[4, 3, 2, 1]), [10, 13, 14, 13]);
+    for state in [[1, 0, 0, 0], [0, 0, 1, 0]] {
+        assert_eq!(internal_layer(&[0, 1, 0, 3], &state), [1; 4]);
+    }
 }
 
 /// Each round's constants take (1, 0, ..., 0) from (10, 8, 2, 2, 5, 4, 1, 1), so that the permutation ends as M_E of it.
@@ -91,7 +109,7 @@ fn external_layer_of_eight() {
 
 #[test]
 fn permutation_and_compression() {
-    for set in [set(T), set(U)] {
+    for set in [set(T), set(U), set(V), set(W)] {
         let mut state = [1, 0, 0, 0];
         assert_eq!(set.permute(&mut state), Ok(()));
         assert_eq!(state, [5, 4, 1, 1]);
@@ -248,6 +266,13 @@ fn counts_of_a_push() {
 fn sets_at_the_edge() {
     let refusal = |numbers: SetNumbers| ParameterSet::new(numbers).err();
     assert_eq!(refusal(SetNumbers { diagonal: &[P - 4; 4], ..T }), Some(Refusal::SingularDiagonal));
+    assert_eq!(refusal(SetNumbers { diagonal: &[0, 2, 0, 4], ..T }), Some(Refusal::ZeroInDiagonal));
+    assert_eq!(refusal(SetNumbers { diagonal: &[0, P - 2, P - 2, 0], ..T }), Some(Refusal::ZeroInDiagonal));
+    assert_eq!(refusal(SetNumbers { diagonal: &[0; 4], ..T }), Some(Refusal::ZeroInDiagonal));
+    assert_eq!(refusal(SetNumbers { diagonal: &[0, P, 3, 4], ..T }), Some(Refusal::BadListWord));
+    for diagonal in [[0, 2, 3, 4], [1, 0, 3, 4], [1, 2, 0, 4], [1, 2, 3, 0], [0, P - 3, P - 3, P - 3]] {
+        assert_eq!(refusal(SetNumbers { diagonal: &diagonal, ..T }), None);
+    }
     assert_eq!(refusal(SetNumbers { height: 33, ..T }), Some(Refusal::BadHeight));
     let twelve = SetNumbers { width: 12, node_size: 1, height: 8, diagonal: &[1; 12], constants: &[0; 24], ..T };
     assert_eq!(refusal(SetNumbers { height: 9, ..twelve }), Some(Refusal::BadHeight));

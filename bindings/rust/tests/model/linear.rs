@@ -20,15 +20,10 @@ pub fn times(matrix: &Matrix, words: &[u64]) -> Vec<u64> {
     matrix.iter().map(product).collect()
 }
 
-/// The inverse of a square matrix, if it has one, by elimination.
-pub fn inverse_matrix(matrix: &Matrix) -> Option<Matrix> {
-    let size = matrix.len();
-    let mut rows: Matrix = matrix.clone();
-    for (i, row) in rows.iter_mut().enumerate() {
-        row.extend((0..size).map(|j| u64::from(i == j)));
-    }
-    for column in 0..size {
-        let pivot = (column..size).find(|&row| rows[row][column] != 0)?;
+/// Elimination: the first columns, as many as there are rows, become the identity, if each has a pivot.
+fn eliminated(mut rows: Matrix) -> Option<Matrix> {
+    for column in 0..rows.len() {
+        let pivot = (column..rows.len()).find(|&row| rows[row][column] != 0)?;
         rows.swap(column, pivot);
         let scale = inverse(rows[column][column]);
         let scaled: Vec<u64> = rows[column].iter().map(|&word| multiply(word, scale)).collect();
@@ -40,5 +35,20 @@ pub fn inverse_matrix(matrix: &Matrix) -> Option<Matrix> {
         }
         rows[column] = scaled;
     }
-    Some(rows.into_iter().map(|row| row[size..].to_vec()).collect())
+    Some(rows)
+}
+
+/// Whether a square matrix has an inverse.
+pub fn has_inverse(matrix: &Matrix) -> bool {
+    eliminated(matrix.clone()).is_some()
+}
+
+/// The inverse of a square matrix, if it has one: what elimination makes of the identity beside it.
+pub fn inverse_matrix(matrix: &Matrix) -> Option<Matrix> {
+    let size = matrix.len();
+    let mut rows: Matrix = matrix.clone();
+    for (i, row) in rows.iter_mut().enumerate() {
+        row.extend((0..size).map(|j| u64::from(i == j)));
+    }
+    Some(eliminated(rows)?.into_iter().map(|row| row[size..].to_vec()).collect())
 }

@@ -1,6 +1,8 @@
 //! Parameter sets of any numbers, and their refusals.
 
-use super::field::{add, inverse, is_word};
+use super::field::is_word;
+use super::linear::{has_inverse, matrix_of};
+use super::permutation::internal_layer;
 
 #[derive(Clone, Debug, PartialEq)]
 pub struct Set {
@@ -41,8 +43,10 @@ pub fn check_set(set: &Set) -> Result<(), u8> {
     let constants = t * set.full_rounds + set.partial_rounds;
     refuse(6, set.diagonal.len() as u64 != t || set.constants.len() as u64 != constants)?;
     refuse(7, not_words(&set.diagonal) || not_words(&set.constants))?;
-    refuse(8, set.diagonal.contains(&0))?;
-    refuse(9, set.diagonal.iter().fold(1, |sum, &d| add(sum, inverse(d))) == 0)
+    // Whether D is refused is decided by its matrix, and only with which number by its zeros.
+    let layer = matrix_of(set.diagonal.len(), |state| internal_layer(&set.diagonal, state));
+    let zeros = set.diagonal.iter().filter(|&&d| d == 0).count();
+    refuse(if zeros > 1 { 8 } else { 9 }, !has_inverse(&layer))
 }
 
 /// Sizes, of a set whose h is at most 32.

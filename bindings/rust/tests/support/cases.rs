@@ -18,11 +18,11 @@ pub fn greatest_height(width: u64, node_size: u64) -> u64 {
     (0..=32).take_while(|&h| arity.pow(h) <= 1 << 32).last().expect("0 passes").into()
 }
 
-/// An accepted set of this shape, with drawn words.
+/// An accepted set of this shape, with drawn words. Now and then one word of the diagonal is 0.
 pub fn set_of(generator: &mut Generator, shape: (u64, u64), height: u64, full_rounds: u64, partial_rounds: u64) -> Set {
     let (width, node_size) = shape;
     loop {
-        let diagonal = (0..width).map(|_| generator.word().max(1)).collect();
+        let diagonal = diagonal_of(generator, width as usize);
         let constants = generator.words((width * full_rounds + partial_rounds) as usize);
         let set = Set { width, node_size, height, full_rounds, partial_rounds, diagonal, constants };
         match check_set(&set) {
@@ -30,6 +30,15 @@ pub fn set_of(generator: &mut Generator, shape: (u64, u64), height: u64, full_ro
             Err(number) => assert_eq!(number, 9, "only the diagonal's words are left to chance"),
         }
     }
+}
+
+/// Drawn words for a diagonal, now and then with one zero.
+pub fn diagonal_of(generator: &mut Generator, width: usize) -> Vec<u64> {
+    let mut diagonal: Vec<u64> = (0..width).map(|_| generator.word().max(1)).collect();
+    if generator.once_in(4) {
+        diagonal[generator.below(width)] = 0;
+    }
+    diagonal
 }
 
 /// An accepted set of small numbers, under which a tree has two leaves of two words.
@@ -48,7 +57,7 @@ pub fn refused_sets() -> [Set; 9] {
         Set { height: 33, ..small() },
         Set { constants: vec![0; 7], ..small() },
         Set { constants: vec![P; 8], ..small() },
-        Set { diagonal: vec![1, 2, 0, 4], ..small() },
+        Set { diagonal: vec![1, 0, 0, 4], ..small() },
         Set { diagonal: vec![P - 4; 4], ..small() },
     ]
 }

@@ -19,7 +19,7 @@
 //! that node of d. So the path goes through other nodes at each level, and never the first.
 
 use super::calls::{Call, Entry};
-use super::cases::greatest_height;
+use super::cases::{diagonal_of, greatest_height};
 use super::generator::Generator;
 use super::roots::roots;
 use crate::model::field::{add, add_lists, inverse, multiply, power, seventh_power, seventh_root, subtract, subtract_lists};
@@ -75,7 +75,7 @@ pub fn collision(generator: &mut Generator, shape: (u64, u64), kind: Kind, parti
     let (t, l) = (width as usize, node_size as usize);
     let layer = matrix_of(t, external_layer);
     let unlayer = inverse_matrix(&layer).expect("M_E has an inverse");
-    let diagonal = (0..t).map(|_| generator.non_zero_word()).collect();
+    let diagonal = diagonal_of(generator, t);
     let partial = generator.words(partial);
     let mut search = Search { generator, t, l, diagonal, partial, layer, unlayer, last: vec![None; t], places: vec![] };
     let digits = match kind {

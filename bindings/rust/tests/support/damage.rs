@@ -78,22 +78,37 @@ fn damage_set(generator: &mut Generator, set: &mut Set) {
             let list = if generator.once_in(2) { &mut set.diagonal } else { &mut set.constants };
             put(list, generator, EDGES.to_vec());
         }
-        8 => put(&mut set.diagonal, generator, vec![0]),
-        _ => make_singular(generator, set),
+        8 => put_zeros(generator, &mut set.diagonal),
+        _ => make_cancelling(generator, &mut set.diagonal),
     }
 }
 
-/// Changes one word of the diagonal so that refusal 9 applies, if there is such a word.
-fn make_singular(generator: &mut Generator, set: &mut Set) {
-    if set.diagonal.is_empty() {
-        return;
+/// Zeros in the diagonal: mostly two, for refusal 8; one, which alone is no refusal; or nothing but zeros.
+fn put_zeros(generator: &mut Generator, diagonal: &mut [u64]) {
+    let count = generator.pick(&[1, 2, 2, 2, diagonal.len()]).min(diagonal.len());
+    for at in generator.some_below(count, diagonal.len()) {
+        diagonal[at] = 0;
     }
-    let at = generator.below(set.diagonal.len());
-    let others = set.diagonal.iter().enumerate().filter(|&(i, &d)| i != at && d != 0 && is_word(d));
+}
+
+/// Changes one word of the diagonal so that 1 plus the inverses of all but zeros is 0, if there is such a word. Without a zero refusal 9
+/// applies, and beside one it does not. At times another word becomes 0 for this.
+fn make_cancelling(generator: &mut Generator, diagonal: &mut [u64]) {
+    let two = generator.some_below(diagonal.len().min(2), diagonal.len());
+    let [at, other] = two[..] else { return };
+    if generator.once_in(4) {
+        diagonal[other] = 0;
+    }
+    if let Some(word) = cancelling_word(diagonal, at) {
+        diagonal[at] = word;
+    }
+}
+
+/// The word for this place with which 1 plus the inverses of the diagonal's words other than 0 is 0, if there is one.
+pub fn cancelling_word(diagonal: &[u64], at: usize) -> Option<u64> {
+    let others = diagonal.iter().enumerate().filter(|&(i, &d)| i != at && d != 0 && is_word(d));
     let sum = others.fold(1, |sum, (_, &d)| add(sum, inverse(d)));
-    if sum != 0 {
-        set.diagonal[at] = inverse(subtract(0, sum));
-    }
+    (sum != 0).then(|| inverse(subtract(0, sum)))
 }
 
 /// Another length.

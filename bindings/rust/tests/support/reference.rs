@@ -1,4 +1,6 @@
-//! The cases of the reference, as the inputs of the programs have them.
+//! The cases of the reference, as the inputs of the programs have them, and what its scripts print.
+
+use std::process::Command;
 
 use crate::model::field::P;
 use crate::model::set::Set;
@@ -10,6 +12,14 @@ const CONSTANT_PLACES: usize = 208;
 pub fn text(path: &str) -> String {
     let path = format!("{}/../../{path}", env!("CARGO_MANIFEST_DIR"));
     std::fs::read_to_string(&path).unwrap_or_else(|error| panic!("{path}: {error}"))
+}
+
+/// What a script of the reference prints.
+pub fn printed(script: &str) -> String {
+    let path = format!("{}/../../reference/{script}", env!("CARGO_MANIFEST_DIR"));
+    let output = Command::new("python3").arg(&path).output().unwrap_or_else(|error| panic!("python3 {path}: {error}"));
+    assert!(output.status.success(), "python3 {path}: {}", String::from_utf8_lossy(&output.stderr));
+    String::from_utf8(output.stdout).expect("text")
 }
 
 /// The numbers of an input, in order.

@@ -32,6 +32,8 @@ pub struct Tally {
     counts: [[u64; REJECTED + 1]; Entry::ALL.len()],
     /// Calls that were done though a number in their buffers was not a word, since it is not looked at.
     passed_over: [u64; Entry::ALL.len()],
+    /// Calls that were done under a set whose diagonal has a zero.
+    with_zero: [u64; Entry::ALL.len()],
     /// Extractions by the level they answered.
     levels: Vec<u64>,
     /// Those of few records, and those of more.
@@ -71,6 +73,9 @@ impl Tally {
         if column == DONE && call.buffers.iter().flatten().chain(numbers).any(|&n| !is_word(n)) {
             self.passed_over[entry] += 1;
         }
+        if column == DONE && !call.entry.is_of_field() && call.set.diagonal.contains(&0) {
+            self.with_zero[entry] += 1;
+        }
         if let (Entry::Extract, Answer::Number(level)) = (call.entry, answer) {
             let level = level as usize;
             self.levels.resize(self.levels.len().max(level + 1), 0);
@@ -106,12 +111,12 @@ impl Tally {
     pub fn print(&self) {
         print!("{:14} {:>6}", "", "done");
         (1..=LAST_REFUSAL).for_each(|number| print!(" {number:>5}"));
-        println!(" rejected  not looked at");
+        println!(" rejected  not looked at  0 in D");
         for entry in Entry::ALL {
             let counts = &self.counts[entry as usize];
             print!("{:14} {:>6}", format!("{entry:?}"), counts[DONE]);
             counts[1..=LAST_REFUSAL].iter().for_each(|count| print!(" {count:>5}"));
-            println!(" {:>8} {:>14}", counts[REJECTED], self.passed_over[entry as usize]);
+            println!(" {:>8} {:>14} {:>7}", counts[REJECTED], self.passed_over[entry as usize], self.with_zero[entry as usize]);
         }
         println!("extractions by level: {:?}", self.levels);
         for (of, pushes) in [(format!("2 to {FEW_RECORDS}"), self.pushes[0]), (format!("over {FEW_RECORDS}"), self.pushes[1])] {
@@ -120,8 +125,8 @@ impl Tally {
         println!("calls: {}", self.total());
     }
 
-    /// Every function was done, gave each refusal that it can, but that of a file that is too long, and no other; verification rejected
-    /// too; and numbers that a function does not look at were not looked at.
+    /// Every function was done, also with a zero in the diagonal, and gave each refusal that it can, but that of a file that is too long,
+    /// and no other; verification rejected too; and numbers that a function does not look at were not looked at.
     pub fn assert_all_reached(&self) {
         for entry in Entry::ALL {
             let mut expected = vec![DONE];
@@ -139,6 +144,7 @@ impl Tally {
                 _ => false,
             };
             assert_eq!(self.passed_over[entry as usize] == 0, looks_at_all, "{entry:?}");
+            assert!(entry.is_of_field() || self.with_zero[entry as usize] >= 100, "{entry:?}");
         }
     }
 }
