@@ -45,14 +45,6 @@ subLists-take p [] cs = refl
 subLists-take p (x ∷ xs) [] = refl
 subLists-take p (x ∷ xs) (c ∷ cs) = cons-eq refl (subLists-take p xs cs)
 
--- no place before the end: no 0
-pub none-of : (es : List ℕ) → length es ≤ zeroPlace es → zeros es ≡ 0
-none-of es h = of (ℕ-discrete (zeros es) 0)
-  where
-    of : Dec (zeros es ≡ 0) → zeros es ≡ 0
-    of (yes e) = e
-    of (no o) = absurd (omega (arith, place-some es o))
-
 -- what is taken from each word may be any number with its residue
 pub multiplesLess-same : (p : ℕ) {s z : ℕ} → s ≈⟨ p ⟩ z → (es ys : List ℕ) → multiplesLess p s es ys ≡ multiplesLess p z es ys
 unfolding multiplesLess sub

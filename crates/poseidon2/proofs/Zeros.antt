@@ -5,6 +5,7 @@ use mathlib.Core.List.{List, [], _∷_, _++_}
 use Prim.Native.Nat.{ℕ, zero, suc, _+_, _*_, _%_, _<_, _≤_}
 use native.Mathlib.Nat.{add-zero, zero-add, mul-zero, zero-mod}
 use native.Mathlib.Numerals.{add-one}
+use native.Mathlib.Decide.{ℕ-discrete}
 use native.Mathlib.Omega.{arith}
 use lib.ListN.{length, getD, take, drop, take-append-drop, drop-of-length-le}
 use lib.Seq.{take-suc, drop-cons}
@@ -68,6 +69,13 @@ place-some [] o = absurd (o refl)
 place-some (zero ∷ D) o = omega (arith, place-here 0 D refl)
 place-some (suc d ∷ D) o =
     omega (arith, place-later (suc d) D (above-zero d), place-some D (λ e. o (zeros-later (suc d) D (above-zero d) ∙ e)))
+
+pub place-beyond : (D : List ℕ) → length D ≤ zeroPlace D → zeros D ≡ 0
+place-beyond D h = of (ℕ-discrete (zeros D) 0)
+  where
+    of : Dec (zeros D ≡ 0) → zeros D ≡ 0
+    of (yes e) = e
+    of (no o) = absurd (omega (arith, place-some D o))
 
 -- ---- a list from its front on, as a loop goes over it
 

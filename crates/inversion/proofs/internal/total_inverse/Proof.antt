@@ -12,10 +12,9 @@ use Rattle.fields.specs.Prime.{prime}
 use Rattle.fields.proofs.Prime.{positive, prime-field}
 use Rattle.poseidon2.specs.Layers.{sum}
 use Rattle.poseidon2.specs.Inverse.{zeros, zeroPlace}
-use Rattle.poseidon2.proofs.Zeros.{place-none}
+use Rattle.poseidon2.proofs.Zeros.{place-none, place-beyond}
 use Rattle.poseidon2.proofs.Words.{below}
 use Rattle.inversion.specs.Kept.{totalInverse}
-use Rattle.inversion.proofs.Kept.{none-of}
 use Rattle.inversion.proofs.internal.total_inverse.Statement.{statement}
 use Rattle.inversion.proofs.internal.total_inverse.Tie as tie
 
@@ -27,7 +26,7 @@ one-is t z es fits e h =
     rw (ne-eqb (zeros (take t es)) 0 some) refl
 
 none-is : (t z : ℕ) (es : List ℕ) → t ≤ length es → z ≡ zeroPlace (take t es) → t ≤ z → zeros (take t es) ≡ 0
-none-is t z es fits e h = none-of (take t es) (omega (arith, length-take-le t es fits))
+none-is t z es fits e h = place-beyond (take t es) (omega (arith, length-take-le t es fits))
 
 by-sum : (t : ℕ) (es : List ℕ) → zeros (take t es) ≡ 0 → inverse prime ((1 + sum (take t es)) % prime) ≡ totalInverse prime t es
 unfolding totalInverse
