@@ -1,8 +1,10 @@
-use mathlib.Core.Path.{refl, sym, ap, _∙_}
+use mathlib.Core.Path.{_≡_, refl, sym, ap, _∙_}
 use native.Mathlib.Omega.{arith}
 use borrow.Author.Needs.{needs}
 use lib.ListN.{set}
 use lib.Seq.{set-out}
+use Rattle.modular.specs.Arithmetic.{sub}
+use Rattle.fields.specs.Prime.{prime}
 use Rattle.fields.proofs.Prime.{positive}
 use Rattle.poseidon2.proofs.Words.{below}
 use Rattle.inversion.proofs.Kept.{sub-sum}
@@ -19,7 +21,8 @@ returns-2 : tie.Need-returns-2
 returns-2 c =
     let f = c .before in
     let a = f .before .before .before .before .args in
-    ap (set (a .state .now) (a .zero)) (c .difference .ensures ∙ sub-sum (a .s) _ (f .sum-from .result) (a .state .now) refl (f .sum-from .ensures))
+    let left : c .difference .result ≡ sub prime (a .s) (f .sum-from .result) = c .difference .ensures in
+    ap (set (a .state .now) (a .zero)) (left ∙ sub-sum (a .s) _ (f .sum-from .result) (a .state .now) refl (f .sum-from .ensures))
 
 sum-from-requires : tie.Need-sum-from-requires
 sum-from-requires c κs = (positive, omega arith, c .before .before .before .pre .1)
