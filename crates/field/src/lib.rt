@@ -4,7 +4,7 @@ pub mod parts;
 
 ghost use mathlib.Core.Path.{_≡_};
 ghost use Prim.Native.Nat.{_<_};
-ghost use Rattle.modular.specs.Arithmetic.{add, sub, mul, pow, inverse, seventhRoot};
+ghost use Rattle.modular.specs.Arithmetic.{add, sub, mul, pow, inverse};
 ghost use Rattle.modular.specs.Goldilocks.{p};
 use std::num::wrapping_add_u64;
 use std::num::wrapping_sub_u64;
@@ -16,9 +16,6 @@ pub const WORD_BYTES: usize = 7;
 
 // 2^64 modulo p
 pub const EPSILON: u64 = 4294967295;
-
-// The seventh root of a word is this power of it.
-const ROOT_EXPONENT: u64 = 10540996611094048183;
 
 // A sum of words. One that passes 2^64 wraps: it lacks 2^64, which is EPSILON modulo p.
 pub fn sum(a: u64, b: u64) -> u64
@@ -74,12 +71,4 @@ pub fn inverse(x: u64) -> u64
     ensures { λ r. ⌜ r ≡ inverse p x ⌝ }
 {
     power(x, P - 2)
-}
-
-// The word whose seventh power is y.
-pub fn seventh_root(y: u64) -> u64
-    requires { ⌜ y < p ⌝ }
-    ensures { λ r. ⌜ r ≡ seventhRoot p y ⌝ }
-{
-    power(y, ROOT_EXPONENT)
 }

@@ -3,6 +3,9 @@ ghost use mathlib.Core.Path.{_≡_};
 ghost use Prim.Native.Nat.{_+_, _*_, _-_, _%_, _<_};
 ghost use Rattle.modular.specs.Arithmetic.{add, sub, mul, pow, inverse, seventhRoot};
 ghost use Rattle.modular.specs.Congruence.{_≈⟨_⟩_};
+ghost use Rattle.poseidon2.specs.Inverse.{seventhRoots};
+ghost use Rattle.poseidon2.specs.Statements.{Words};
+ghost use Rattle.blocks.specs.Blocks.{four, flat};
 ghost use Rattle.fields.specs.Prime.{prime, wordBytes};
 
 // The prime itself: a number below it is a word.
@@ -60,7 +63,29 @@ pub fn seventh_root(y: u64) -> u64
     requires { ⌜ y < prime ⌝ }
     ensures { λ r. ⌜ r ≡ seventhRoot prime y ⌝ }
 {
-    field::seventh_root(y)
+    roots::seventh_root(y)
+}
+
+// The seventh roots of a state's words, by its blocks: together they take less time than one by one.
+pub fn seventh_roots4(y: [u64; 4]) -> [u64; 4]
+    requires { ⌜ Words prime (four y) ⌝ }
+    ensures { λ r. ⌜ four r ≡ seventhRoots prime (four y) ⌝ }
+{
+    roots::seventh_roots4(y)
+}
+
+pub fn seventh_roots8(y: [[u64; 4]; 2]) -> [[u64; 4]; 2]
+    requires { ⌜ Words prime (flat 2 y) ⌝ }
+    ensures { λ r. ⌜ flat 2 r ≡ seventhRoots prime (flat 2 y) ⌝ }
+{
+    roots::seventh_roots8(y)
+}
+
+pub fn seventh_roots12(y: [[u64; 4]; 3]) -> [[u64; 4]; 3]
+    requires { ⌜ Words prime (flat 3 y) ⌝ }
+    ensures { λ r. ⌜ flat 3 r ≡ seventhRoots prime (flat 3 y) ⌝ }
+{
+    roots::seventh_roots12(y)
 }
 
 // Lazy numbers: any number of 64 bits stands for its residue. A product, and one with a summand.
@@ -68,6 +93,14 @@ pub fn lazy_product(a: u64, b: u64) -> u64
     ensures { λ r. ⌜ r ≈⟨ prime ⟩ a * b ⌝ }
 {
     field::lazy::product(a, b)
+}
+
+// The sum of a number and a word.
+pub fn lazy_sum(a: u64, b: u64) -> u64
+    requires { ⌜ b < prime ⌝ }
+    ensures { λ r. ⌜ r ≈⟨ prime ⟩ a + b ⌝ }
+{
+    field::lazy::sum(a, b)
 }
 
 pub fn lazy_product_sum(a: u64, b: u64, c: u64) -> u64
@@ -83,13 +116,22 @@ pub fn residue(x: u64) -> u64
     field::lazy::residue(x)
 }
 
-// The inverse of 8, and minus the inverses of 3 and of 4.
-pub fn eighth() -> u64
-    ensures { λ r. ⌜ r ≡ inverse prime (8 % prime) ⌝ }
+// Words by 2 and by 4.
+pub fn half(x: u64) -> u64
+    requires { ⌜ x < prime ⌝ }
+    ensures { λ r. ⌜ (r < prime) × (2 * r ≈⟨ prime ⟩ x) ⌝ }
 {
-    field::parts::eighth()
+    field::parts::half(x)
 }
 
+pub fn quarter(x: u64) -> u64
+    requires { ⌜ x < prime ⌝ }
+    ensures { λ r. ⌜ (r < prime) × (4 * r ≈⟨ prime ⟩ x) ⌝ }
+{
+    field::parts::quarter(x)
+}
+
+// Minus the inverses of 3 and of 4.
 pub fn minus_third() -> u64
     ensures { λ r. ⌜ r ≡ prime - inverse prime (3 % prime) % prime ⌝ }
 {

@@ -9,8 +9,7 @@ use lib.ListN.{length, getD, take, drop, set, length-append, length-drop, drop-o
 use lib.Seq.{sets-eq, take-at, drop-at, take-all, length-take-le, drop-drop, drop-length, getD-drop}
 use Rattle.modular.specs.Arithmetic.{add, mul, inverse}
 use Rattle.modular.proofs.Fours.{from-four}
-use Rattle.modular.proofs.Ring.{var, num, _⊕_, _⊗_, rem, same?, ring}
-use Rattle.poseidon2.specs.Layers.{addLists, dot, rowsTimes, blocks, joinBlocks, sumBlocks, addToEach}
+use Rattle.poseidon2.specs.Layers.{addLists, rowsTimes, blocks, joinBlocks, sumBlocks, addToEach}
 use Rattle.poseidon2.specs.Inverse.{negative, scaled, unm4Rows, unm4, unmixed, unexternal}
 use Rattle.poseidon2.specs.Statements.{Width, Words}
 use Rattle.poseidon2.proofs.Words.{cons-eq, words-none, words-more, words-take, addLists-words}
@@ -37,26 +36,6 @@ put-four xs i a b c d h =
     let two : i + 2 ≡ suc (suc i) = omega arith in
     let three : i + 3 ≡ suc (suc (suc i)) = omega arith in
     rw (one, two, three) (sets-eq (a ∷ b ∷ c ∷ d ∷ []) xs i h)
-
--- a row times four numbers
-dot-four : (a b c d : ℕ) (x : List ℕ)
-    → dot (a ∷ b ∷ c ∷ d ∷ []) x ≡ a * getD x 0 0 + (b * getD x 1 0 + (c * getD x 2 0 + (d * getD x 3 0 + 0)))
-unfolding dot
-dot-four a b c d [] = refl
-dot-four a b c d (x ∷ []) = refl
-dot-four a b c d (x ∷ y ∷ []) = refl
-dot-four a b c d (x ∷ y ∷ z ∷ []) = refl
-dot-four a b c d (x ∷ y ∷ z ∷ w ∷ xs) = refl
-
-module _ {p : ℕ} (pos : 0 < p) where
-  pub row-four : (a b c d : ℕ) (x : List ℕ)
-      → add p (add p (mul p a (getD x 0 0)) (mul p b (getD x 1 0))) (add p (mul p c (getD x 2 0)) (mul p d (getD x 3 0))) ≡ dot (a ∷ b ∷ c ∷ d ∷ []) x % p
-  unfolding same? add mul
-  row-four a b c d x =
-      ring p (a ∷ b ∷ c ∷ d ∷ getD x 0 0 ∷ getD x 1 0 ∷ getD x 2 0 ∷ getD x 3 0 ∷ [])
-      (rem (rem (var 0 ⊗ var 4) ⊕ rem (var 1 ⊗ var 5)) ⊕ rem (rem (var 2 ⊗ var 6) ⊕ rem (var 3 ⊗ var 7)))
-      (var 0 ⊗ var 4 ⊕ (var 1 ⊗ var 5 ⊕ (var 2 ⊗ var 6 ⊕ (var 3 ⊗ var 7 ⊕ num 0)))) pos tt .same
-      ∙ sym (ap (λ (n : ℕ). n % p) (dot-four a b c d x))
 
 -- blocks added, and multiplied, by their places
 pub add-four : (p : ℕ) (a b : List ℕ) → length a ≡ 4

@@ -1,5 +1,5 @@
--- D by its places, and the inverse permutation from D's own inverses.
-use mathlib.Core.Path.{_≡_, refl, sym, ap, ap₂, subst, _∙_}
+-- M_I undone as the code does it, and the inverse permutation from D's own inverses.
+use mathlib.Core.Path.{_≡_, refl, sym, ap, ap₂, _∙_}
 use mathlib.Core.Logic.{_≢_}
 use mathlib.Core.Bool.{Bool, true, false, cond}
 use mathlib.Core.List.{List, [], _∷_}
@@ -7,9 +7,9 @@ use Prim.Native.Nat.{ℕ, zero, suc, _+_, _*_, _-_, _%_, _<_, _≤_}
 use native.Mathlib.Nat.{zero-add, mod-mod, mod-lt}
 use native.Mathlib.Decide.{ℕ-discrete}
 use native.Mathlib.Omega.{arith}
-use lib.Dec.{eqb, ltb}
-use lib.ListN.{length, getD, take, drop, set, replicate, length-map, length-take}
-use lib.Seq.{getD-take, take-at, take-all, set-out}
+use lib.Dec.{ltb}
+use lib.ListN.{length, getD, take, drop, set}
+use lib.Seq.{set-out}
 use borrow.Author.Tests.{eq-eqb, ne-eqb, lt-ltb, le-ltb}
 use Rattle.modular.specs.Arithmetic.{sub, mul, inverse}
 use Rattle.fields.specs.Prime.{prime}
@@ -17,20 +17,13 @@ use Rattle.modular.specs.Congruence.{_≈⟨_⟩_}
 use Rattle.modular.proofs.Congruence.{eq≈, trans≈, mod≈}
 use Rattle.fields.proofs.Prime.{positive, prime-laws}
 use Rattle.poseidon2.specs.Layers.{sum, dot}
-use Rattle.poseidon2.specs.Inverse.{inverses, multiplesLess, zeros, zeroPlace, uninternalBySum, uninternalAtZero, uninternal, subLists, unexternal, unraiseFirst, unpartialRound, unfullRounds, unpartialRounds, unpermuteAt, unpermute}
-use Rattle.poseidon2.specs.Statements.{Words, AcceptedDiagonal}
-use Rattle.poseidon2.proofs.Words.{cons-eq, words-none, words-more, words-append, words-map}
+use Rattle.poseidon2.specs.Inverse.{inverses, multiplesLess, zeros, zeroPlace, totalInverse, uninternalBySum, uninternalAtZero, uninternal, subLists, unexternal, unraiseFirst, unpartialRound, unfullRounds, unpartialRounds, unpermuteAt}
+use Rattle.poseidon2.specs.Statements.{Words}
+use Rattle.poseidon2.proofs.Words.{cons-eq}
 use Rattle.poseidon2.proofs.Zeros.{place-none, place-some, zeros-inverses, place-inverses}
 use Rattle.poseidon2.proofs.Internal.{multiplesLess-length}
 use Rattle.poseidon2.proofs.Rounds.{unpermute-at}
-use Rattle.inversion.specs.Kept.{keptInverses, totalInverse, oldSum, uninternalBy, unpartialRoundBy, unpartialRoundsBy, unpermuteBy}
-
-module _ {p t : ℕ} (D : List ℕ) (a : AcceptedDiagonal p t (take t D)) where
-  pub long-enough : t ≤ length D
-  long-enough = omega (arith, length-take t D, a .width)
-
-  pub word-at : (i : ℕ) → i < t → getD D i 0 < p
-  word-at i h = subst (λ (n : ℕ). n < p) (getD-take t D i 0 h) (a .words .at i)
+use Rattle.inversion.specs.Kept.{oldSum, uninternalBy, unpartialRoundBy, unpartialRoundsBy, unpermuteBy, Own}
 
 -- places beyond the words aren't read
 pub multiplesLess-take : (p s : ℕ) (es ys : List ℕ) → multiplesLess p s (take (length ys) es) ys ≡ multiplesLess p s es ys
@@ -53,12 +46,11 @@ multiplesLess-same p h es (y ∷ ys) =
     cons-eq (ap (λ (n : ℕ). mul p (getD es 0 0) ((y + (p - n)) % p)) (h .same)) (multiplesLess-same p h (drop 1 es) ys)
 
 -- what the code puts in the zero's place: a difference by a sum modulo p
-pub sub-sum : (s n total : ℕ) (st : List ℕ) → n ≡ length st → total ≡ (0 + sum (take n st)) % prime → sub prime s total ≡ sub prime s (sum st)
+pub sub-sum : (s total : ℕ) (st : List ℕ) → total ≡ (0 + sum st) % prime → sub prime s total ≡ sub prime s (sum st)
 unfolding sub
-sub-sum s n total st l e =
-    let all : 0 + sum (take n st) ≡ sum st = zero-add (sum (take n st)) ∙ ap sum (take-all n st (omega arith)) in
+sub-sum s total st e =
     ap (λ (m : ℕ). (s + (prime - m % prime)) % prime) e
-    ∙ ap (λ (m : ℕ). (s + (prime - m)) % prime) (mod-mod (0 + sum (take n st)) prime ∙ ap (λ (m : ℕ). m % prime) all)
+    ∙ ap (λ (m : ℕ). (s + (prime - m)) % prime) (mod-mod (0 + sum st) prime ∙ ap (λ (m : ℕ). m % prime) (zero-add (sum st)))
 
 module _ (z : ℕ) (es : List ℕ) (k : ℕ) (ys : List ℕ) where
   pub sum-there : z < length ys → oldSum prime z es k ys ≡ getD ys z 0
@@ -97,18 +89,14 @@ module _ (z : ℕ) (es : List ℕ) (k : ℕ) (ys : List ℕ) where
 
 -- ---- D's own inverses
 
--- the inverse of 1 plus a list's inverses, and 0 where one of them is
-abbrev total : List ℕ → ℕ
-total es = cond (eqb (zeros es) 0) (inverse prime ((1 + sum es) % prime)) 0
-
-uninternal-own : (D ys : List ℕ) → Words prime D → uninternalBy prime (inverses prime D) (total (inverses prime D)) ys ≡ uninternal prime D ys
-unfolding uninternalBy uninternal
+uninternal-own : (D ys : List ℕ) → Words prime D → uninternalBy prime (inverses prime D) (totalInverse prime D) ys ≡ uninternal prime D ys
+unfolding uninternalBy uninternal totalInverse
 uninternal-own D ys w = of (zeros D) refl
   where
     same : zeros (inverses prime D) ≡ zeros D
     same = zeros-inverses (prime-laws .inverses) D w
 
-    of : (n : ℕ) → zeros D ≡ n → uninternalBy prime (inverses prime D) (total (inverses prime D)) ys ≡ uninternal prime D ys
+    of : (n : ℕ) → zeros D ≡ n → uninternalBy prime (inverses prime D) (totalInverse prime D) ys ≡ uninternal prime D ys
     of zero z = rw (eq-eqb (zeros (inverses prime D)) 0 (same ∙ z), eq-eqb (zeros D) 0 z) refl
     of (suc n) z =
         let some : zeros D ≢ 0 = λ e. absurd (omega arith) in
@@ -116,40 +104,19 @@ uninternal-own D ys w = of (zeros D) refl
         (ap (λ (n : ℕ). uninternalAtZero prime n (inverses prime D) ys) (place-inverses (prime-laws .inverses) D w))
 
 unpartialRounds-own : (D : List ℕ) → Words prime D → (n : ℕ) (cs ys : List ℕ)
-    → unpartialRoundsBy prime (inverses prime D) (total (inverses prime D)) n cs ys ≡ unpartialRounds prime D n cs ys
+    → unpartialRoundsBy prime (inverses prime D) (totalInverse prime D) n cs ys ≡ unpartialRounds prime D n cs ys
 unfolding unpartialRoundsBy unpartialRoundBy unpartialRounds unpartialRound
 unpartialRounds-own D w zero cs ys = refl
 unpartialRounds-own D w (suc n) cs ys =
     ap (unraiseFirst prime (getD cs 0 0))
-    (ap (uninternalBy prime (inverses prime D) (total (inverses prime D))) (unpartialRounds-own D w n (drop 1 cs) ys)
+    (ap (uninternalBy prime (inverses prime D) (totalInverse prime D)) (unpartialRounds-own D w n (drop 1 cs) ys)
     ∙ uninternal-own D (unpartialRounds prime D n (drop 1 cs) ys) w)
 
-module _ {t : ℕ} (D : List ℕ) (a : AcceptedDiagonal prime t (take t D)) where
-  kept-take : take t (keptInverses prime t D) ≡ inverses prime (take t D)
-  unfolding keptInverses inverses
-  kept-take = take-at (inverses prime (take t D)) (replicate (12 - t) 0) t (length-map (take t D) (inverse prime) ∙ a .width)
-
-  pub kept-words : Words prime (keptInverses prime t D)
-  unfolding keptInverses inverses
-  kept-words =
-      words-append positive (inverses prime (take t D)) (replicate (12 - t) 0) (words-map positive (inverse prime) (prime-laws .inverses .word) (take t D)) (zeros (12 - t))
-    where
-      zeros : (n : ℕ) → Words prime (replicate n 0)
-      zeros zero = words-none positive
-      zeros (suc n) = words-more positive positive (zeros n)
-
-  pub kept-sum : zeros (take t (keptInverses prime t D)) ≡ 0 → 0 < (1 + sum (take t (keptInverses prime t D))) % prime
-  kept-sum z =
-      subst (λ (es : List ℕ). 0 < (1 + sum es) % prime) (sym kept-take)
-      (a .sumNonzero (sym (zeros-inverses (prime-laws .inverses) (take t D) (a .words)) ∙ sym (ap zeros kept-take) ∙ z))
-
-  -- with them it is the inverse permutation
-  pub kept-unpermute : (half rp : ℕ) (C ys : List ℕ) → length ys ≡ t
-      → unpermuteBy prime t half rp (keptInverses prime t D) (totalInverse prime t (keptInverses prime t D)) C ys ≡ unpermute prime half rp D C ys
-  unfolding unpermuteBy unpermuteAt totalInverse
-  kept-unpermute half rp C ys l =
-      let zs : List ℕ = unfullRounds prime t half (drop (t * half + rp) C) ys in
-      ap (λ (xs : List ℕ). unexternal prime (unfullRounds prime t half C xs))
-      (ap (λ (es : List ℕ). unpartialRoundsBy prime es (total es) rp (drop (t * half) C) zs) kept-take
-      ∙ unpartialRounds-own (take t D) (a .words) rp (drop (t * half) C) zs)
-      ∙ sym (unpermute-at prime t half rp D C ys l)
+pub own : Own prime
+unfolding unpermuteBy unpermuteAt
+own t half rp D es C ys w e l =
+    let zs : List ℕ = unfullRounds prime t half (drop (t * half + rp) C) ys in
+    ap (λ (xs : List ℕ). unexternal prime (unfullRounds prime t half C xs))
+    (ap (λ (is : List ℕ). unpartialRoundsBy prime is (totalInverse prime (take t D)) rp (drop (t * half) C) zs) e
+    ∙ unpartialRounds-own (take t D) w rp (drop (t * half) C) zs)
+    ∙ sym (unpermute-at prime t half rp D C ys l)

@@ -2,6 +2,7 @@
 mod Words
 mod Blocks
 mod Placewise
+mod Written
 mod Sums
 mod Parts
 pub mod Kept

@@ -1,13 +1,12 @@
 -- A list whose first n numbers are replaced, each by its place and itself: what a loop over the places has done after n turns.
 use mathlib.Core.Path.{_≡_, refl, sym, ap, subst, _∙_}
-use mathlib.Core.List.{List, [], _∷_, _++_, map}
-use Prim.Native.Nat.{ℕ, zero, suc, _+_, _-_, _<_, _≤_}
-use native.Mathlib.Nat.{sub-zero}
+use mathlib.Core.List.{List, [], _∷_}
+use Prim.Native.Nat.{ℕ, zero, suc, _+_, _<_, _≤_}
 use native.Mathlib.Numerals.{add-one}
 use native.Mathlib.Omega.{arith}
-use lib.ListN.{length, getD, take, set, replicate}
-use Rattle.modular.specs.Arithmetic.{sub, mul, inverse, seventhRoot}
-use Rattle.poseidon2.specs.Inverse.{inverses, multiplesLess, subLists, seventhRoots}
+use lib.ListN.{length, getD, set}
+use Rattle.modular.specs.Arithmetic.{sub, mul}
+use Rattle.poseidon2.specs.Inverse.{multiplesLess}
 use Rattle.poseidon2.specs.Statements.{Words}
 use Rattle.poseidon2.proofs.Words.{cons-eq}
 
@@ -44,25 +43,9 @@ done-more f i xs st r e h g =
 pub done-word : {p : ℕ} (f : ℕ → ℕ → ℕ) (i : ℕ) (xs st : List ℕ) → st ≡ done f i xs → Words p xs → getD st i 0 < p
 done-word {p} f i xs st e w = subst (λ (n : ℕ). n < p) (sym (ap (λ (l : List ℕ). getD l i 0) e ∙ done-ahead f i xs i (omega arith))) (w .at i)
 
--- all the places, for each of the loops
-pub done-roots : (p : ℕ) (cs xs : List ℕ) → done (λ k x. sub p (seventhRoot p x) (getD cs k 0)) (length xs) xs ≡ subLists p (seventhRoots p xs) cs
-unfolding done subLists seventhRoots
-done-roots p cs [] = refl
-done-roots p [] (x ∷ xs) = cons-eq refl (done-roots p [] xs)
-done-roots p (c ∷ cs) (x ∷ xs) = cons-eq refl (done-roots p cs xs)
-
+-- all the places
 pub done-multiples : (p s : ℕ) (es ys : List ℕ) → done (λ k y. mul p (getD es k 0) (sub p y s)) (length ys) ys ≡ multiplesLess p s es ys
 unfolding done multiplesLess
 done-multiples p s es [] = refl
 done-multiples p s [] (y ∷ ys) = cons-eq refl (done-multiples p s [] ys)
 done-multiples p s (e ∷ es) (y ∷ ys) = cons-eq refl (done-multiples p s es ys)
-
-pub done-inverses : (p m n : ℕ) (D : List ℕ) → n ≤ m → n ≤ length D
-    → done (λ k x. inverse p (getD D k 0)) n (replicate m 0) ≡ inverses p (take n D) ++ replicate (m - n) 0
-unfolding done inverses
-done-inverses p m zero D h l = ap (λ (k : ℕ). replicate k 0) (sym (sub-zero m))
-done-inverses p zero (suc n) D h l = absurd (omega arith)
-done-inverses p (suc m) (suc n) [] h l = absurd (omega arith)
-done-inverses p (suc m) (suc n) (d ∷ D) h l =
-    let e : m - n ≡ suc m - suc n = omega arith in
-    cons-eq refl (done-inverses p m n D (omega arith) (omega arith) ∙ ap (λ (k : ℕ). map (inverse p) (take n D) ++ replicate k 0) e)

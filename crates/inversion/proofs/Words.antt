@@ -31,6 +31,10 @@ sub-word a b = mod-lt (a + (prime - b % prime)) positive
 pub root-word : (y : ℕ) → seventhRoot prime y < prime
 root-word y = prime-laws .seventhRoots .word y
 
+pub roots-words : (ys : List ℕ) → Words prime (seventhRoots prime ys)
+unfolding seventhRoots
+roots-words ys = words-map positive (seventhRoot prime) root-word ys
+
 pub unexternal-state : {t : ℕ} {ys : List ℕ} → Width t → State prime t ys → State prime t (unexternal prime ys)
 unexternal-state {t} {ys} w s = invertible prime-field .externalLayer t w .from ys s
 

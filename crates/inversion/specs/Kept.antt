@@ -1,22 +1,14 @@
--- The inverse permutation that is handed, in the place of D, the inverse e_i of each D_i, 0 for a 0, and the inverse k of 1 + Σ e_i: so a
--- caller of many inverts D once. With D's own inverses it is poseidon2's inverse permutation.
+-- The inverse permutation that is handed, in the place of D, the inverse e_i of each D_i, 0 for a 0, and the inverse k of 1 + Σ e_i, as a set
+-- keeps them. With D's own it is poseidon2's inverse permutation (`Own`).
+use mathlib.Core.Path.{_≡_}
 use mathlib.Core.Bool.{cond}
-use mathlib.Core.List.{List, _++_}
-use Prim.Native.Nat.{ℕ, zero, suc, _+_, _*_, _-_, _%_, _<_, _≤_}
+use mathlib.Core.List.{List}
+use Prim.Native.Nat.{ℕ, zero, suc, _+_, _*_, _%_, _<_, _≤_}
 use lib.Dec.{eqb, ltb}
-use lib.ListN.{length, getD, take, drop, replicate}
-use Rattle.modular.specs.Arithmetic.{inverse}
-use Rattle.poseidon2.specs.Layers.{sum, dot}
-use Rattle.poseidon2.specs.Inverse.{inverses, zeros, zeroPlace, uninternalBySum, uninternalAtZero, unexternal, unraiseFirst, unfullRounds}
-use Rattle.poseidon2.specs.Statements.{Width, State}
-
--- The inverses of the first t words of D, and zeros up to twelve.
-unfoldable pub keptInverses : ℕ → ℕ → List ℕ → List ℕ
-keptInverses p t D = inverses p (take t D) ++ replicate (12 - t) 0
-
--- The inverse of 1 plus the first t of the inverses, and 0 where one of these is 0: it is not used then.
-unfoldable pub totalInverse : ℕ → ℕ → List ℕ → ℕ
-totalInverse p t es = cond (eqb (zeros (take t es)) 0) (inverse p ((1 + sum (take t es)) % p)) 0
+use lib.ListN.{length, getD, take, drop}
+use Rattle.poseidon2.specs.Layers.{dot}
+use Rattle.poseidon2.specs.Inverse.{inverses, zeros, totalInverse, zeroPlace, uninternalBySum, uninternalAtZero, unexternal, unraiseFirst, unfullRounds, unpermute}
+use Rattle.poseidon2.specs.Statements.{Width, Words, State}
 
 -- The sum of the words before M_I, by the place z of the first e_i that is 0, or their number: y_z, or Σ e_i y_i, k times.
 unfoldable pub oldSum : ℕ → ℕ → List ℕ → ℕ → List ℕ → ℕ
@@ -54,3 +46,9 @@ pub record UnpermuteInput (p t half rp : ℕ) (C ys : List ℕ) : Type 0 where
   pub partial : rp ≤ 64
   pub constants : WordsBelow p (t * (2 * half) + rp) C
   pub state : State p t ys
+
+-- What is claimed: with the inverses of the words of D, and that of 1 plus their sum, it is the inverse permutation.
+abbrev pub Own : ℕ → Type 0
+Own p =
+    (t half rp : ℕ) (D es C ys : List ℕ) → Words p (take t D) → take t es ≡ inverses p (take t D) → length ys ≡ t
+    → unpermuteBy p t half rp es (totalInverse p (take t D)) C ys ≡ unpermute p half rp D C ys

@@ -1,42 +1,32 @@
 // M_E undone on words: what it added to each block is taken off, and M4 is undone in each.
 ghost use mathlib.Core.Path.{_≡_};
 ghost use mathlib.Core.Logic.{_⊎_};
-ghost use mathlib.Core.List.{[], _∷_, _++_, map};
+ghost use mathlib.Core.List.{_++_, map};
 ghost use Prim.Native.Nat.{_+_, _/_, _%_, _≤_};
 ghost use lib.ListN.{length, take, drop};
 ghost use Rattle.modular.specs.Arithmetic.{inverse};
 ghost use Rattle.fields.specs.Prime.{prime};
-ghost use Rattle.poseidon2.specs.Layers.{addLists, dot, blocks, joinBlocks, sumBlocks, addToEach};
+ghost use Rattle.poseidon2.specs.Layers.{addLists, blocks, joinBlocks, sumBlocks, addToEach};
 ghost use Rattle.poseidon2.specs.Inverse.{negative, scaled, unm4, unexternal};
 ghost use Rattle.poseidon2.specs.Statements.{Width, Words};
+use fields::difference;
+use fields::half;
 use fields::product;
+use fields::quarter;
 use fields::sum;
 
-// A row of a matrix times four numbers.
-fn row_times(a: u64, b: u64, c: u64, d: u64, x: [u64; 4]) -> u64
-    ensures { λ r. ⌜ r ≡ dot (a ∷ b ∷ c ∷ d ∷ []) x % prime ⌝ }
-{
-    let left = sum(product(a, x[0]), product(b, x[1]));
-    let right = sum(product(c, x[2]), product(d, x[3]));
-    sum(left, right)
-}
-
-// M4 undone: its inverse has these entries over 8.
+// M4 undone, its sums from the last to the first.
 fn unm4(x: [u64; 4]) -> [u64; 4]
+    requires { ⌜ Words prime x ⌝ }
     ensures { λ r. ⌜ r ≡ unm4 prime x ⌝ }
 {
-    let order = fields::order();
-    let eighth = fields::eighth();
-    let r0 = row_times(order - 1, 3, order - 6, 7, x);
-    let r1 = row_times(1, order - 1, 4, order - 5, x);
-    let r2 = row_times(order - 6, 7, order - 1, 3, x);
-    let r3 = row_times(4, order - 5, 1, order - 1, x);
-    [
-        product(eighth, r0),
-        product(eighth, r1),
-        product(eighth, r2),
-        product(eighth, r3),
-    ]
+    let t3 = difference(x[0], x[1]);
+    let t2 = difference(x[2], x[3]);
+    let t1 = quarter(difference(x[3], t3));
+    let t0 = quarter(difference(x[1], t2));
+    let d = half(difference(t3, t0));
+    let b = half(difference(t2, t1));
+    [difference(t0, b), b, difference(t1, d), d]
 }
 
 // Two blocks added word by word.
@@ -53,7 +43,7 @@ fn add_blocks(a: [u64; 4], b: [u64; 4]) -> [u64; 4]
 }
 
 // The block that starts at a place.
-fn block_at(at: usize, state: &[u64]) -> [u64; 4]
+pub fn block_at(at: usize, state: &[u64]) -> [u64; 4]
     requires { ⌜ at + 4 ≤ length (now state) ⌝ }
     ensures { λ r. ⌜ r ≡ take 4 (drop at (now (state .entry))) ⌝ }
 {
@@ -61,7 +51,7 @@ fn block_at(at: usize, state: &[u64]) -> [u64; 4]
 }
 
 // A block written from a place on.
-fn put_block(block: [u64; 4], at: usize, state: &mut [u64])
+pub fn put_block(block: [u64; 4], at: usize, state: &mut [u64])
     requires { ⌜ at + 4 ≤ length (now state) ⌝ }
     ensures { λ r. ⌜ now (state .exit) ≡ take at (now (state .entry)) ++ block ++ drop (at + 4) (now (state .entry)) ⌝ }
 {

@@ -1,16 +1,17 @@
 // M_I undone on words, from the inverses of D, 0 for a 0, and the inverse of 1 plus their sum.
 ghost use mathlib.Core.Path.{_≡_};
-ghost use Prim.Native.Nat.{_+_, _%_, _<_, _≤_};
+ghost use Prim.Native.Nat.{_<_, _≤_};
 ghost use lib.ListN.{length, take, set};
-ghost use Rattle.modular.specs.Arithmetic.{sub, inverse};
+ghost use Rattle.modular.specs.Arithmetic.{sub};
+ghost use Rattle.modular.specs.Congruence.{_≈⟨_⟩_};
 ghost use Rattle.fields.specs.Prime.{prime};
 ghost use Rattle.poseidon2.specs.Layers.{sum, dot};
-ghost use Rattle.poseidon2.specs.Inverse.{zeros, zeroPlace, multiplesLess};
-ghost use Rattle.poseidon2.specs.Statements.{Words, AcceptedDiagonal};
-ghost use Rattle.inversion.specs.Kept.{keptInverses, totalInverse, oldSum, uninternalBy};
+ghost use Rattle.poseidon2.specs.Inverse.{zeroPlace, multiplesLess};
+ghost use Rattle.poseidon2.specs.Statements.{Words};
+ghost use Rattle.inversion.specs.Kept.{oldSum, uninternalBy};
 use fields::difference;
+use fields::lazy_sum;
 use fields::product;
-use fields::sum;
 
 // The place of the first 0 among the first numbers, or their count.
 pub fn zero_place(count: usize, numbers: &[u64]) -> usize
@@ -27,62 +28,15 @@ pub fn zero_place(count: usize, numbers: &[u64]) -> usize
     count
 }
 
-// The inverse of a word, and 0 for 0, which the power gives that the inverse is.
-fn inverse_or_zero(x: u64) -> u64
-    requires { ⌜ x < prime ⌝ }
-    ensures { λ r. ⌜ r ≡ inverse prime x ⌝ }
-{
-    fields::power(x, fields::order() - 2)
-}
-
-// The inverses of the first words of D, and zeros beyond.
-pub fn kept_inverses(width: usize, diagonal: &[u64; 12]) -> [u64; 12]
-    requires { ⌜ (width ≤ 12) × AcceptedDiagonal prime width (take width (now diagonal)) ⌝ }
-    ensures { λ r. ⌜ r ≡ keptInverses prime width (now (diagonal .entry)) ⌝ }
-{
-    let mut inverses = [0u64; 12];
-    let mut i = 0;
-    while i < width {
-        inverses[i] = inverse_or_zero(diagonal[i]);
-        i += 1;
-    }
-    inverses
-}
-
-// A word and the first of some words, added up.
-fn sum_from(start: u64, count: usize, words: &[u64]) -> u64
-    requires { ⌜ (start < prime) × (count ≤ length (now words)) × Words prime (now words) ⌝ }
-    ensures { λ r. ⌜ r ≡ (start + sum (take count (now (words .entry)))) % prime ⌝ }
-{
-    let mut total = start;
-    let mut i = 0;
-    while i < count {
-        total = sum(total, words[i]);
-        i += 1;
-    }
-    total
-}
-
-// The inverse of 1 plus the first of the inverses, or 0 where one of them is 0.
-pub fn total_inverse(width: usize, inverses: &[u64; 12]) -> u64
-    requires { ⌜ (width ≤ 12) × Words prime (now inverses) × (zeros (take width (now inverses)) ≡ 0 → 0 < (1 + sum (take width (now inverses))) % prime) ⌝ }
-    ensures { λ r. ⌜ r ≡ totalInverse prime width (now (inverses .entry)) ⌝ }
-{
-    if zero_place(width, inverses) < width {
-        return 0;
-    }
-    fields::inverse(sum_from(1, width, inverses))
-}
-
-// The words, each times its inverse, added up.
+// The words, each times its inverse, added up: a number that stands for the sum.
 fn weighted_sum(inverses: &[u64; 12], state: &[u64]) -> u64
     requires { ⌜ length (now state) ≤ 12 ⌝ }
-    ensures { λ r. ⌜ r ≡ dot (take (length (now (state .entry))) (now (inverses .entry))) (now (state .entry)) % prime ⌝ }
+    ensures { λ r. ⌜ r ≈⟨ prime ⟩ dot (take (length (now (state .entry))) (now (inverses .entry))) (now (state .entry)) ⌝ }
 {
     let mut total = 0;
     let mut i = 0;
     while i < state.len() {
-        total = sum(total, product(inverses[i], state[i]));
+        total = lazy_sum(total, product(inverses[i], state[i]));
         i += 1;
     }
     total
@@ -119,7 +73,7 @@ fn put_rest(s: u64, zero: usize, state: &mut [u64])
     if state.len() <= zero {
         return;
     }
-    let others = sum_from(0, state.len(), state);
+    let others = kept::sum_from(0, state);
     state[zero] = difference(s, others);
 }
 

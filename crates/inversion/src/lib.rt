@@ -1,34 +1,21 @@
 // The inverse permutation on words, the permutation's last step undone first.
 mod external;
+mod full;
 mod internal;
 
 ghost use mathlib.Core.Path.{_≡_};
 ghost use Prim.Native.Nat.{_+_, _*_, _≤_};
 ghost use lib.ListN.{length, take, drop};
 ghost use Rattle.fields.specs.Prime.{prime};
-ghost use Rattle.poseidon2.specs.Inverse.{zeroPlace, subLists, seventhRoots, unfullRounds, unpermute};
-ghost use Rattle.poseidon2.specs.Statements.{Width, Words, AcceptedDiagonal};
+ghost use Rattle.poseidon2.specs.Inverse.{zeroPlace, unfullRounds};
+ghost use Rattle.poseidon2.specs.Statements.{Width, Words};
 ghost use Rattle.inversion.specs.Kept.{WordsBelow, UnpermuteInput, unpartialRoundsBy, unpermuteBy};
 use external::unexternal;
 use fields::difference;
 use fields::seventh_root;
-pub use internal::kept_inverses;
-pub use internal::total_inverse;
+use full::unraise;
 use internal::uninternal;
 use internal::zero_place;
-
-// Every word's seventh root, less the constants from place `at` on.
-fn unraise(constants: &[u64; 208], at: usize, state: &mut [u64])
-    requires { ⌜ (at + length (now state) ≤ 208) × WordsBelow prime (at + length (now state)) (now constants) × Words prime (now state) ⌝ }
-    ensures { λ r. ⌜ now (state .exit) ≡ subLists prime (seventhRoots prime (now (state .entry))) (drop at (now (constants .entry))) ⌝ }
-{
-    let mut i = 0;
-    while i < state.len() {
-        let root = seventh_root(state[i]);
-        state[i] = difference(root, constants[at + i]);
-        i += 1;
-    }
-}
 
 // Full rounds undone: the first of them has its constants from place `at` on.
 fn unfull_rounds(rounds: usize, constants: &[u64; 208], at: usize, state: &mut [u64])
@@ -67,7 +54,7 @@ fn unpartial_rounds(
 }
 
 // The inverse permutation, handed the inverses of D, 0 for a 0, and the inverse of 1 plus their sum.
-pub fn unpermute_by(
+pub fn unpermute(
     width: usize,
     half: usize,
     partial_rounds: usize,
@@ -93,29 +80,4 @@ pub fn unpermute_by(
     );
     unfull_rounds(half, constants, 0, state);
     unexternal(state);
-}
-
-// The inverse permutation: D is inverted once.
-pub fn unpermute(
-    width: usize,
-    half: usize,
-    partial_rounds: usize,
-    diagonal: &[u64; 12],
-    constants: &[u64; 208],
-    state: &mut [u64],
-)
-    requires { ⌜ UnpermuteInput prime width half «partial_rounds» (now constants) (now state) × AcceptedDiagonal prime width (take width (now diagonal)) ⌝ }
-    ensures { λ r. ⌜ now (state .exit) ≡ unpermute prime half «partial_rounds» (now (diagonal .entry)) (now (constants .entry)) (now (state .entry)) ⌝ }
-{
-    let inverses = kept_inverses(width, diagonal);
-    let total_inverse = total_inverse(width, &inverses);
-    unpermute_by(
-        width,
-        half,
-        partial_rounds,
-        &inverses,
-        total_inverse,
-        constants,
-        state,
-    );
 }

@@ -5,11 +5,10 @@ ghost use lib.ListN.{length, take, drop};
 ghost use lib.Seq.{paste};
 ghost use Rattle.poseidon2.specs.Layers.{sums, m4Blocks};
 ghost use Rattle.poseidon2.specs.Rounds.{permute};
-ghost use Rattle.poseidon2.specs.Inverse.{unpermute};
 ghost use Rattle.poseidon2.specs.Compression.{compress};
-ghost use Rattle.poseidon2.specs.Statements.{Width, Words, AcceptedDiagonal};
+ghost use Rattle.poseidon2.specs.Statements.{Width, Words};
 ghost use Rattle.fields.specs.Prime.{prime};
-ghost use Rattle.inversion.specs.Kept.{UnpermuteInput};
+ghost use Rattle.inversion.specs.Kept.{UnpermuteInput, unpermuteBy};
 
 // The permutation of a state, in its place.
 pub fn permute(
@@ -80,19 +79,28 @@ pub fn compress_at(
     );
 }
 
-// The inverse permutation of a state, in its place.
+// The inverse permutation of a state, in its place, from the inverses of the words of D and that of 1 plus their sum.
 pub fn unpermute(
     width: usize,
     half: usize,
     partial_rounds: usize,
-    diagonal: &[u64; 12],
+    inverses: &[u64; 12],
+    total_inverse: u64,
     constants: &[u64; 208],
     state: &mut [u64],
 )
-    requires { ⌜ UnpermuteInput prime width half «partial_rounds» (now constants) (now state) × AcceptedDiagonal prime width (take width (now diagonal)) ⌝ }
-    ensures { λ r. ⌜ now (state .exit) ≡ unpermute prime half «partial_rounds» (now (diagonal .entry)) (now (constants .entry)) (now (state .entry)) ⌝ }
+    requires { ⌜ UnpermuteInput prime width half «partial_rounds» (now constants) (now state) ⌝ }
+    ensures { λ r. ⌜ now (state .exit) ≡ unpermuteBy prime width half «partial_rounds» (now (inverses .entry)) «total_inverse» (now (constants .entry)) (now (state .entry)) ⌝ }
 {
-    inversion::unpermute(width, half, partial_rounds, diagonal, constants, state);
+    inversion::unpermute(
+        width,
+        half,
+        partial_rounds,
+        inverses,
+        total_inverse,
+        constants,
+        state,
+    );
 }
 
 // The first half of M_E, the sums, of numbers below 2^32: from a list to a state.

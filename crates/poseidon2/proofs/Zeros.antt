@@ -117,7 +117,7 @@ module _ (D : List ℕ) (i : ℕ) (P : PlaceFrom D i) where
 -- ---- the inverses of words have their zeros where these have them
 
 module _ {p : ℕ} (I : Inverses p) where
-  inverse-nonzero : (d : ℕ) → 0 < d → d < p → inverse p d ≢ 0
+  pub inverse-nonzero : (d : ℕ) → 0 < d → d < p → inverse p d ≢ 0
   unfolding mul
   inverse-nonzero d h l e =
       let one : d * 0 % p ≡ 1 = ap (λ (n : ℕ). d * n % p) (sym e) ∙ I .product d h l in

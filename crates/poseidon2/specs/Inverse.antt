@@ -57,6 +57,10 @@ unfoldable pub zeroPlace : List ℕ → ℕ
 zeroPlace [] = 0
 zeroPlace (d ∷ D) = cond (eqb d 0) 0 (1 + zeroPlace D)
 
+-- The inverse of 1 plus the inverses of all words, and 0 where one of the words is 0 (Rules 2.9).
+unfoldable pub totalInverse : ℕ → List ℕ → ℕ
+totalInverse p D = cond (eqb (zeros D) 0) (inverse p ((1 + sum (inverses p D)) % p)) 0
+
 -- M_I undone where no D_i is 0, from the inverse e_i of each and the inverse k of 1 + Σ e_i: the sum of the words was Σ e_i y_i, k times.
 unfoldable pub uninternalBySum : ℕ → List ℕ → ℕ → List ℕ → List ℕ
 uninternalBySum p es k ys = multiplesLess p (dot es ys * k) es ys

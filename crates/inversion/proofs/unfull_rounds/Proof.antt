@@ -52,7 +52,7 @@ unraise-requires c κs =
     let s = l .before .before in
     let v = unexternal-step (s .pre .0) (l .loop .inv .2) (u .unexternal .ensures) in
     let f = round-fits _ _ (l .loop .i) (s .args .rounds) (v .width) (u .before .before .loop-test .taken) (l .loop .inv .0) in
-    (omega (arith, f, s .pre .2), fewer-words (s .pre .3) (omega (arith, f)), v .words)
+    (subst Width (sym (v .width)) (s .pre .0), omega (arith, f, s .pre .2), fewer-words (s .pre .3) (omega (arith, f)), v .words)
 
 loop-again : tie.Need-loop-again Inv-loop μ-loop
 loop-again c =

@@ -1,41 +1,85 @@
-use mathlib.Core.Path.{_≡_, sym, ap, ap₂, subst, _∙_}
-use mathlib.Core.List.{List}
-use Prim.Native.Nat.{ℕ, _+_, _%_, _<_}
+use mathlib.Core.Path.{refl, sym, ap, subst, _∙_}
+use Prim.Native.Nat.{ℕ, _*_}
 use borrow.Author.Needs.{needs}
-use lib.ListN.{take}
+use native.Mathlib.Omega.{arith}
+use lib.ListN.{length, take, drop}
 use Rattle.fields.specs.Prime.{prime}
-use Rattle.poseidon2.specs.Layers.{sum}
-use Rattle.poseidon2.specs.Inverse.{zeros}
-use Rattle.poseidon2.specs.Statements.{Words}
-use Rattle.inversion.specs.Kept.{totalInverse, unpermuteBy}
-use Rattle.inversion.proofs.Kept.{kept-words, kept-sum, kept-unpermute}
-use Rattle.inversion.proofs.Rounds.{width-small}
+use Rattle.poseidon2.specs.Inverse.{zeroPlace, unexternal, unfullRounds}
+use Rattle.poseidon2.specs.Statements.{Width}
+use Rattle.inversion.specs.Kept.{unpartialRoundsBy, unpermuteBy}
+use Rattle.inversion.proofs.Rounds.{full-step, partial-step, halves, fewer-words, width-small}
 use Rattle.inversion.proofs.unpermute.Statement.{statement}
 use Rattle.inversion.proofs.unpermute.Tie as tie
 
-kept-inverses-requires : tie.Need-kept-inverses-requires
-kept-inverses-requires c κs = (width-small (c .before .pre .0 .width) .1, c .before .pre .1)
+mul-middle : tie.Need-mul-middle
+mul-middle c =
+    let s = c .before in
+    omega (arith, halves (s .args .width) (s .args .half) (s .pre .width) refl (s .pre .full))
 
-total-inverse-requires : tie.Need-total-inverse-requires
-total-inverse-requires c κs =
-    let k = c .before in
-    let s = k .before .before in
-    let D = s .args .diagonal .now in
-    let e = sym (k .kept-inverses .ensures) in
-    (width-small (s .pre .0 .width) .1, subst (Words prime) e (kept-words D (s .pre .1)), subst (λ (es : List ℕ). zeros (take (s .args .width) es) ≡ 0 → 0 < (1 + sum (take (s .args .width) es)) % prime) e (kept-sum D (s .pre .1)))
+add-unfull-rounds : tie.Need-add-unfull-rounds
+add-unfull-rounds c =
+    let s = c .before .before .before in
+    omega (arith, halves (s .args .width) (s .args .half) (s .pre .width) refl (s .pre .full), s .pre .partial)
+
+zero-place-requires : tie.Need-zero-place-requires
+zero-place-requires c κs = omega (arith, width-small (c .before .before .pre .width))
+
+unfull-rounds-requires : tie.Need-unfull-rounds-requires
+unfull-rounds-requires c κs =
+    let s = c .before .before .before .before in
+    let a = s .args in
+    let s0 = s .pre .state in
+    let h = halves (length (a .state .now)) (a .half) (s .pre .width) (s .pre .state .width) (s .pre .full) in
+    (subst Width (sym (s .pre .state .width)) (s .pre .width), s .pre .state .words, omega (arith, h, s .pre .partial), fewer-words (s .pre .constants) (omega (arith, h)))
+
+unpartial-rounds-requires : tie.Need-unpartial-rounds-requires
+unpartial-rounds-requires c κs =
+    let z = c .before .before .before .before .before in
+    let s = z .before .before .before in
+    let a = s .args in
+    let s0 = s .pre .state in
+    let h = halves (length (a .state .now)) (a .half) (s .pre .width) (s .pre .state .width) (s .pre .full) in
+    let x1 = full-step _ _ _ (s .pre .width) s0 (c .before .before .before .unfull-rounds .ensures) in
+    (subst Width (sym (x1 .1 .width)) (s .pre .width), x1 .1 .words, omega (arith, h, s .pre .partial), fewer-words (s .pre .constants) (omega (arith, h)), z .zero-place .ensures ∙ ap (λ (n : ℕ). zeroPlace (take n (a .inverses .now))) (sym (x1 .1 .width)), omega arith)
+
+unfull-rounds-requires-2 : tie.Need-unfull-rounds-requires-2
+unfull-rounds-requires-2 c κs =
+    let s = c .before .before .before .before .before .before .before .before .before .before .before .before in
+    let a = s .args in
+    let s0 = s .pre .state in
+    let h = halves (length (a .state .now)) (a .half) (s .pre .width) (s .pre .state .width) (s .pre .full) in
+    let x1 = full-step _ _ _ (s .pre .width) s0 (c .before .before .before .before .before .before .before .unfull-rounds .ensures) in
+    let x2 = partial-step _ _ _ _ _ (x1 .1) (c .before .before .before .unpartial-rounds .ensures) in
+    let g = halves _ (a .half) (s .pre .width) (x2 .1 .width) (s .pre .full) in
+    (subst Width (sym (x2 .1 .width)) (s .pre .width), x2 .1 .words, omega (arith, g), fewer-words (s .pre .constants) (omega (arith, g)))
+
+unexternal-requires : tie.Need-unexternal-requires
+unexternal-requires c κs =
+    let s = c .before .before .before .before .before .before .before .before .before .before .before .before .before .before .before .before in
+    let a = s .args in
+    let s0 = s .pre .state in
+    let h = halves (length (a .state .now)) (a .half) (s .pre .width) (s .pre .state .width) (s .pre .full) in
+    let x1 = full-step _ _ _ (s .pre .width) s0 (c .before .before .before .before .before .before .before .before .before .before .before .unfull-rounds .ensures) in
+    let x2 = partial-step _ _ _ _ _ (x1 .1) (c .before .before .before .before .before .before .before .unpartial-rounds .ensures) in
+    let x3 = full-step _ _ _ (s .pre .width) (x2 .1) (c .before .before .before .unfull-rounds2 .ensures) in
+    (subst Width (sym (x3 .1 .width)) (s .pre .width), x3 .1 .words)
 
 returns : tie.Need-returns
+unfolding unpermuteBy
 returns c =
-    let k = c .before .before .before .before .before in
-    let i = k .before .before in
-    let s = i .before .before in
+    let s = c .before .before .before .before .before .before .before .before .before .before .before .before .before .before .before .before .before .before .before in
     let a = s .args in
-    let D = a .diagonal .now in
-    let es = i .kept-inverses .ensures in
-    c .before .before .unpermute-by .ensures
-    ∙ ap₂ (λ (es : List ℕ) (total : ℕ). unpermuteBy prime (a .width) (a .half) (a .partial-rounds) es total (a .constants .now) (a .state .now)) es
-    (k .total-inverse .ensures ∙ ap (totalInverse prime (a .width)) es)
-    ∙ kept-unpermute D (s .pre .1) (a .half) (a .partial-rounds) (a .constants .now) (a .state .now) (s .pre .0 .state .width)
+    let s0 = s .pre .state in
+    let h = halves (length (a .state .now)) (a .half) (s .pre .width) (s .pre .state .width) (s .pre .full) in
+    let x1 = full-step _ _ _ (s .pre .width) s0 (c .before .before .before .before .before .before .before .before .before .before .before .before .before .before .unfull-rounds .ensures) in
+    let x2 = partial-step _ _ _ _ _ (x1 .1) (c .before .before .before .before .before .before .before .before .before .before .unpartial-rounds .ensures) in
+    let x3 = full-step _ _ _ (s .pre .width) (x2 .1) (c .before .before .before .before .before .before .unfull-rounds2 .ensures) in
+    c .before .before .unexternal .ensures
+    ∙ ap (unexternal prime) (x3 .0 ∙ ap (unfullRounds prime (a .width) (a .half) (a .constants .now)) (x2 .0
+    ∙ ap (unpartialRoundsBy prime (take (a .width) (a .inverses .now)) (a .total-inverse) (a .partial-rounds) (drop (a .width * a .half) (a .constants .now))) (x1 .0)))
 
 pub unpermute-spec : {M : Type 1} → statement M
-unpermute-spec = tie.close (tie.spec kept-inverses-requires total-inverse-requires (λ c κs. search needs) (λ c. search needs) returns)
+unpermute-spec =
+    tie.close
+    (tie.spec mul-middle zero-place-requires add-unfull-rounds unfull-rounds-requires unpartial-rounds-requires unfull-rounds-requires-2 unexternal-requires
+    (λ c. search needs) returns)

@@ -9,6 +9,7 @@ use Rattle.poseidon2.specs.Layers.{addLists}
 use Rattle.poseidon2.specs.Inverse.{unm4}
 use Rattle.poseidon2.specs.Statements.{Words}
 use Rattle.fields.proofs.Prime.{positive}
+use Rattle.poseidon2.proofs.Words.{addLists-words}
 use Rattle.inversion.proofs.Blocks.{Each, each-none, each-more, each-all, block-words}
 use Rattle.inversion.proofs.external.unm4_each.Statement.{statement}
 use Rattle.inversion.proofs.external.unm4_each.Tie as tie
@@ -31,7 +32,7 @@ add-blocks-requires c κs =
     (subst (Words prime) (sym (c .block-at .ensures ∙ ap (take 4) (l .loop .inv .1 .left))) (block-words positive (l .loop .i) (s .args .state .now) (s .pre .2)), s .pre .1)
 
 unm4-requires : tie.Need-unm4-requires Inv-loop μ-loop
-unm4-requires c κs = tt
+unm4-requires c κs = subst (Words prime) (sym (c .add-blocks .ensures)) (addLists-words positive _ _)
 
 loop-again : tie.Need-loop-again Inv-loop μ-loop
 loop-again c =

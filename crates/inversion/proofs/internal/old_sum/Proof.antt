@@ -1,12 +1,10 @@
-use mathlib.Core.Path.{sym, ap, _∙_}
-use Prim.Native.Nat.{ℕ, _*_, _%_, _≤_}
+use mathlib.Core.Path.{sym, _∙_}
+use Prim.Native.Nat.{_≤_}
 use native.Mathlib.Omega.{arith}
 use borrow.Author.Needs.{needs}
 use lib.ListN.{length, take}
 use Rattle.modular.specs.Arithmetic.{mul}
-use Rattle.modular.proofs.Congruence.{refl≈, mod≈, mul≈}
-use Rattle.fields.specs.Prime.{prime}
-use Rattle.poseidon2.specs.Layers.{dot}
+use Rattle.modular.proofs.Congruence.{refl≈, mul≈}
 use Rattle.inversion.proofs.Kept.{sum-there, sum-made}
 use Rattle.inversion.proofs.internal.old_sum.Statement.{statement}
 use Rattle.inversion.proofs.internal.old_sum.Tie as tie
@@ -25,8 +23,7 @@ returns-2 c =
     let ys = a .state .now in
     let es = take (length ys) (a .inverses .now) in
     let beyond : length ys ≤ a .zero = omega (arith, e .if1 .left) in
-    c .product .ensures ∙ ap (λ (n : ℕ). n * a .total-inverse % prime) (c .before .weighted-sum .ensures)
-    ∙ mul≈ (mod≈ (dot es ys)) (refl≈ {a = a .total-inverse}) .same ∙ sym (sum-made (a .zero) es (a .total-inverse) ys beyond)
+    c .product .ensures ∙ mul≈ (c .before .weighted-sum .ensures) (refl≈ {a = a .total-inverse}) .same ∙ sym (sum-made (a .zero) es (a .total-inverse) ys beyond)
 
 pub old-sum-spec : {M : Type 1} → statement M
 old-sum-spec =

@@ -1,4 +1,4 @@
-use mathlib.Core.Path.{_≡_, refl, sym, ap, _∙_}
+use mathlib.Core.Path.{_≡_, sym, ap, _∙_}
 use native.Mathlib.Omega.{arith}
 use borrow.Author.Needs.{needs}
 use lib.ListN.{set}
@@ -22,10 +22,10 @@ returns-2 c =
     let f = c .before in
     let a = f .before .before .before .before .args in
     let left : c .difference .result ≡ sub prime (a .s) (f .sum-from .result) = c .difference .ensures in
-    ap (set (a .state .now) (a .zero)) (left ∙ sub-sum (a .s) _ (f .sum-from .result) (a .state .now) refl (f .sum-from .ensures))
+    ap (set (a .state .now) (a .zero)) (left ∙ sub-sum (a .s) (f .sum-from .result) (a .state .now) (f .sum-from .ensures))
 
 sum-from-requires : tie.Need-sum-from-requires
-sum-from-requires c κs = (positive, omega arith, c .before .before .before .pre .1)
+sum-from-requires c κs = (positive, c .before .before .before .pre .1)
 
 difference-requires : tie.Need-difference-requires
 difference-requires c κs =

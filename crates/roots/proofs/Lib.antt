@@ -1,0 +1,2 @@
+-- The laws that the proofs of the roots cite.
+mod Chain

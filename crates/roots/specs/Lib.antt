@@ -1,0 +1,2 @@
+-- Products and powers of lists of numbers.
+pub mod Powers
