@@ -63,14 +63,14 @@ pub record AcceptedSet (s : ParameterSet) : Type 0 where
 pub accepted-set : (s : ParameterSet) → firstRefusal (setRefusals s) ≡ 0 → AcceptedSet s
 unfolding setRefusals
 accepted-set s unrefused =
-    let N = sets.numbers (primeOf s) _ _ _ _ _ _ _ positive unrefused in
+    let N = sets.numbers s unrefused in
     record {
       width = N .width;
       node-below = below (s .width) (s .«node_size») (N .nodeSize .positive) (N .nodeSize .several);
-      half-some = sets.half-some (primeOf s) _ _ _ _ _ _ _ positive unrefused;
-      half-few = sets.half-few (primeOf s) _ _ _ _ _ _ _ positive unrefused;
+      half-some = sets.half-some s unrefused;
+      half-few = sets.half-few s unrefused;
       partial-few = N .rounds .fewPartial;
-      constants = sets.used-constants (primeOf s) _ _ _ _ _ _ _ positive unrefused;
+      constants = sets.used-constants s unrefused;
     }
   where
     below : (t l : ℕ) → (l ≡ 0 → ⊥) → 2 ≤ t / l → l < t

@@ -23,6 +23,8 @@ pub use reader_entries::copy_level;
 pub use reader_entries::part_at;
 pub use reader_entries::read_level;
 pub use reader_entries::reader;
+pub use set_entries::exchange_diagonal;
+pub use set_entries::exchange_height;
 pub use state_entries::Outcome;
 pub use state_entries::compress;
 pub use state_entries::permute;

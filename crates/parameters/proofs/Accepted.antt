@@ -3,7 +3,7 @@ use mathlib.Core.Path.{_≡_, refl, sym, _∙_}
 use mathlib.Core.Logic.{_≢_, inl, inr}
 use mathlib.Core.Bool.{Bool, true, false, not, _&&_, _||_, false≢true}
 use mathlib.Core.List.{List, [], _∷_, _++_}
-use Prim.Native.Nat.{ℕ, _+_, _/_, _%_, _^_, _≤_, _<_}
+use Prim.Native.Nat.{ℕ, _/_, _%_, _^_, _≤_}
 use native.Mathlib.Nat.{div-le-self, mul-le-mul}
 use native.Mathlib.Omega.{arith}
 use lib.Dec.{eqb, ltb, lit<}
@@ -13,8 +13,11 @@ use Rattle.modular.specs.Arithmetic.{allWords}
 use Rattle.modular.proofs.Words.{left-true, right-true}
 use Rattle.refusals.specs.Table.{refusal, firstRefusal}
 use Rattle.refusals.proofs.Table.{Numbered, none, next, numbered-append, refusal-none, first-none}
+use Rattle.poseidon2.specs.Inverse.{inverses, totalInverse}
 use Rattle.poseidon2.specs.Statements.{Width}
-use Rattle.parameters.specs.Refusals.{badWidth, badNodeSize, badFullRounds, badPartialRounds, badHeight, constantCount, badLengths, severalZeros, badDiagonal, numberRefusals, shapeRefusals, diagonalRefusals, listRefusals, validationRefusals}
+use Rattle.kept.specs.Kept.{fits}
+use Rattle.kept.proofs.Tested.{kept-are}
+use Rattle.parameters.specs.Refusals.{badWidth, badNodeSize, badFullRounds, badPartialRounds, badHeight, constantCount, badLengths, severalZeros, badDiagonal, badKept, numberRefusals, shapeRefusals, diagonalRefusals, listRefusals, usedRefusals, wordRefusals, keptRefusals, validationRefusals}
 use Rattle.parameters.specs.ParameterSet.{primeOf, heldRefusals, setRefusals}
 use Rattle.parameters.specs.declared.ParameterSet.{ParameterSet}
 
@@ -137,9 +140,43 @@ pub lists-numbered : (p : ℕ) (D C : List ℕ) → Numbered (listRefusals p D C
 unfolding listRefusals diagonalRefusals
 lists-numbered p D C = next (lit< tt) (next (lit< tt) (next (lit< tt) none))
 
+-- What is kept is what is named, where 18 does not apply.
+pub record Kept (p : ℕ) (D es : List ℕ) (k : ℕ) : Type 0 where
+  pub inverses : es ≡ inverses p D
+  pub total : k ≡ totalInverse p D
+
+pub used-of : (p : ℕ) (D C es : List ℕ) (k : ℕ) → firstRefusal (usedRefusals p D C es k) ≡ 0 → Lists p D C × Kept p D es k
+unfolding usedRefusals badKept
+used-of p D C es k e =
+    let n = first-none (listRefusals p D C) (refusal 18 (badKept p D es k) ∷ []) (lists-numbered p D C) e in
+    let f = kept-are p D es k (not-false (fits p D es k) (refusal-none 17 (badKept p D es k) [] (n .1) .0)) in
+    (lists-of p D C (n .0), record { inverses = f .0; total = f .1 })
+
+pub used-numbered : (p : ℕ) (D C es : List ℕ) (k : ℕ) → Numbered (usedRefusals p D C es k)
+unfolding usedRefusals
+used-numbered p D C es k = numbered-append (lists-numbered p D C) (next (lit< tt) none)
+
 pub set-numbered : (s : ParameterSet) → Numbered (setRefusals s)
 unfolding setRefusals heldRefusals
-set-numbered s = numbered-append (numbers-numbered _ _ _ _ _) (lists-numbered (primeOf s) _ _)
+set-numbered s = numbered-append (numbers-numbered _ _ _ _ _) (used-numbered (primeOf s) _ _ _ _)
+
+-- 7 and 8 before 9, and before 9 and 18.
+pub words-first : (p : ℕ) (D C : List ℕ) → listRefusals p D C ≡ wordRefusals p D C ++ (refusal 9 (badDiagonal p D) ∷ [])
+unfolding listRefusals diagonalRefusals wordRefusals
+words-first p D C = refl
+
+pub used-words-first : (p : ℕ) (D C es : List ℕ) (k : ℕ) → usedRefusals p D C es k ≡ wordRefusals p D C ++ keptRefusals p D es k
+unfolding usedRefusals listRefusals diagonalRefusals wordRefusals keptRefusals
+used-words-first p D C es k = refl
+
+pub words-numbered : (p : ℕ) (D C : List ℕ) → Numbered (wordRefusals p D C)
+unfolding wordRefusals
+words-numbered p D C = next (lit< tt) (next (lit< tt) none)
+
+-- a D that they leave is words
+pub words-are : (p : ℕ) (D C : List ℕ) → firstRefusal (wordRefusals p D C) ≡ 0 → allWords p D ≡ true
+unfolding wordRefusals
+words-are p D C e = left-true (allWords p D) (allWords p C) (not-false (allWords p D && allWords p C) (refusal-none 6 (not (allWords p D && allWords p C)) _ e .0))
 
 pub shape-numbered : (t l h rf rp : ℕ) (D C : List ℕ) → Numbered (shapeRefusals t l h rf rp D C)
 unfolding shapeRefusals
@@ -150,7 +187,7 @@ pub shape-first : (p t l h rf rp : ℕ) (D C : List ℕ) → validationRefusals 
 unfolding validationRefusals shapeRefusals numberRefusals
 shape-first p t l h rf rp D C = refl
 
--- The lists of a set that is held have the lengths that its numbers say, and so the places that the set has for them.
+-- Lists that pass have the lengths that the numbers say, and so the places that a set has for them.
 pub record Shape (t l h rf rp : ℕ) (D C : List ℕ) : Type 0 where
   pub numbers : Numbers t l h rf rp
   pub diagonal : length D ≡ t

@@ -3,7 +3,7 @@ use mathlib.Core.Path.{_≡_, sym, _∙_}
 use mathlib.Core.Bool.{true, false}
 use mathlib.Core.List.{List}
 use Prim.Native.Nat.{ℕ, _+_, _*_, _/_, _%_, _≤_, _<_}
-use native.Mathlib.Nat.{mul-le-mul-right, div-mul-le-self}
+use native.Mathlib.Nat.{div-le-self, mul-le-mul-right, div-mul-le-self}
 use native.Mathlib.Decide.{decLt}
 use native.Mathlib.Omega.{arith}
 use lib.ListN.{length, getD, take, List·getD-eq-default}
@@ -17,11 +17,11 @@ use Rattle.refusals.proofs.Table.{first-none}
 use Rattle.poseidon2.specs.Layers.{sum}
 use Rattle.poseidon2.specs.Inverse.{inverses}
 use Rattle.poseidon2.specs.Statements.{Words, State, AcceptedDiagonal}
-use Rattle.parameters.specs.Refusals.{constantCount, severalZeros, badDiagonal, numberRefusals, listRefusals}
-use Rattle.parameters.specs.ParameterSet.{primeOf, heldRefusals, setRefusals}
+use Rattle.parameters.specs.Refusals.{constantCount, severalZeros, badDiagonal, numberRefusals, usedRefusals}
+use Rattle.parameters.specs.ParameterSet.{primeOf, usedDiagonal, usedConstants, usedInverses, heldRefusals, setRefusals}
 use Rattle.parameters.specs.declared.ParameterSet.{ParameterSet}
 use Rattle.parameters.proofs.Diagonal.{without-zero, few-zeros}
-use Rattle.parameters.proofs.Accepted.{Numbers, Lists, numbers-of, numbers-numbered, lists-of, width-fits}
+use Rattle.parameters.proofs.Accepted.{Numbers, Lists, Kept, numbers-of, numbers-numbered, used-of, width-fits}
 
 -- numbers that the test of words accepts
 pub words-of : (p : ℕ) (xs : List ℕ) → 0 < p → allWords p xs ≡ true → Words p xs
@@ -47,45 +47,57 @@ accepted-diagonal p t D S e f = record {
 pub used-at : (p n : ℕ) (xs : List ℕ) → Words p (take n xs) → (i : ℕ) → i < n → getD xs i 0 < p
 used-at p n xs W i b = rw (getD-take n xs i 0 b) at (W .at i)
 
-module _ (p t l h rf rp : ℕ) (D C : List ℕ) (positive : 0 < p) (none : firstRefusal (heldRefusals p t l h rf rp D C) ≡ 0) where
-  both : (firstRefusal (numberRefusals t l h rf rp) ≡ 0) × (firstRefusal (listRefusals p (take t D) (take (constantCount t rf rp) C)) ≡ 0)
-  unfolding heldRefusals
-  both = first-none (numberRefusals t l h rf rp) (listRefusals p (take t D) (take (constantCount t rf rp) C)) (numbers-numbered t l h rf rp) none
+module _ (s : ParameterSet) (none : firstRefusal (setRefusals s) ≡ 0) where
+  pub parts :
+      (firstRefusal (numberRefusals (s .width) (s .«node_size») (s .height) (s .«full_rounds») (s .«partial_rounds»)) ≡ 0)
+      × (firstRefusal (usedRefusals (primeOf s) (usedDiagonal s) (usedConstants s) (usedInverses s) (s .«total_inverse»)) ≡ 0)
+  unfolding setRefusals heldRefusals
+  parts =
+      first-none (numberRefusals (s .width) (s .«node_size») (s .height) (s .«full_rounds») (s .«partial_rounds»))
+      (usedRefusals (primeOf s) (usedDiagonal s) (usedConstants s) (usedInverses s) (s .«total_inverse»)) (numbers-numbered _ _ _ _ _) none
 
-  pub numbers : Numbers t l h rf rp
-  numbers = numbers-of t l h rf rp (both .0)
+  pub numbers : Numbers (s .width) (s .«node_size») (s .height) (s .«full_rounds») (s .«partial_rounds»)
+  numbers = numbers-of _ _ _ _ _ (parts .0)
 
-  lists : Lists p (take t D) (take (constantCount t rf rp) C)
-  lists = lists-of p (take t D) (take (constantCount t rf rp) C) (both .1)
+  pub lists : Lists (primeOf s) (usedDiagonal s) (usedConstants s)
+  lists = used-of (primeOf s) (usedDiagonal s) (usedConstants s) (usedInverses s) (s .«total_inverse») (parts .1) .0
+
+  -- what is kept is what is named
+  pub kept : Kept (primeOf s) (usedDiagonal s) (usedInverses s) (s .«total_inverse»)
+  kept = used-of (primeOf s) (usedDiagonal s) (usedConstants s) (usedInverses s) (s .«total_inverse») (parts .1) .1
+
+  pub arity-few : (1 ≤ s .width / s .«node_size») × (s .width / s .«node_size» ≤ 12)
+  arity-few = (omega (arith, numbers .nodeSize .several), omega (arith, div-le-self (s .width) (s .«node_size»), width-fits (s .width) (numbers .width)))
 
   -- R_F/2: the full rounds of either half
-  pub half-some : 1 ≤ rf / 2
+  pub half-some : 1 ≤ s .«full_rounds» / 2
   half-some = omega (arith, numbers .rounds .some)
 
-  pub half-few : rf / 2 ≤ 6
+  pub half-few : s .«full_rounds» / 2 ≤ 6
   half-few = omega (arith, numbers .rounds .few)
 
-  both-halves : 2 * (rf / 2) ≡ rf
+  both-halves : 2 * (s .«full_rounds» / 2) ≡ s .«full_rounds»
   both-halves = omega (arith, numbers .rounds .even)
 
-  pub used-constants : Words p (take (t * (2 * (rf / 2)) + rp) C)
-  unfolding constantCount
-  used-constants = rw both-halves (words-of p (take (t * rf + rp) C) positive (lists .constants))
+  pub used-constants : Words (primeOf s) (take (s .width * (2 * (s .«full_rounds» / 2)) + s .«partial_rounds») (s .constants))
+  unfolding usedConstants constantCount
+  used-constants = rw both-halves (words-of (primeOf s) (usedConstants s) positive (lists .constants))
 
-  pub used-diagonal : t ≤ length D → AcceptedDiagonal p t (take t D)
-  used-diagonal fits =
-      accepted-diagonal p t (take t D) (state-of p t (take t D) positive (length-take-le t D fits) (lists .diagonal)) (lists .fewZeros) (lists .sum)
+  -- the width of numbers that are cast
+  pub width-few : s .width ≤ 12
+  width-few = width-fits (s .width) (numbers .width)
 
-  -- the widths of numbers that are cast
-  pub width-few : t ≤ 12
-  width-few = width-fits t (numbers .width)
+  pub used-state : length (s .diagonal) ≡ 12 → State (primeOf s) (s .width) (usedDiagonal s)
+  unfolding usedDiagonal
+  used-state long =
+      state-of (primeOf s) (s .width) (usedDiagonal s) positive (length-take-le (s .width) (s .diagonal) (omega (arith, width-few))) (lists .diagonal)
+
+  pub used-diagonal : length (s .diagonal) ≡ 12 → AcceptedDiagonal (primeOf s) (s .width) (usedDiagonal s)
+  used-diagonal long = accepted-diagonal (primeOf s) (s .width) (usedDiagonal s) (used-state long) (lists .fewZeros) (lists .sum)
 
 -- a node is no wider than a row
 pub node-size-fits : (s : ParameterSet) → firstRefusal (setRefusals s) ≡ 0 → s .«node_size» ≤ s .width
-unfolding setRefusals
-node-size-fits s none =
-    let N = numbers (primeOf s) _ _ _ _ _ _ _ positive none in
-    divisor-fits (s .width) (s .«node_size») (N .nodeSize .several)
+node-size-fits s none = divisor-fits (s .width) (s .«node_size») (numbers s none .nodeSize .several)
   where
     divisor-fits : (t l : ℕ) → 2 ≤ t / l → l ≤ t
     divisor-fits t l h = omega (arith, mul-le-mul-right l h, div-mul-le-self t l)

@@ -6,4 +6,6 @@ mod Padding
 pub mod Accepted
 pub mod Answers
 pub mod AcceptedSets
+pub mod Validated
+mod Heightened
 pub mod Statements

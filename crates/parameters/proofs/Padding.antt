@@ -5,9 +5,9 @@ use Prim.Native.Nat.{ℕ, suc, _+_, _-_, _<_, _≤_}
 use native.Mathlib.Nat.{sub-zero}
 use native.Mathlib.Numerals.{add-one}
 use native.Mathlib.Omega.{arith}
-use lib.ListN.{getD, length, take, replicate, set, length-set, length-replicate}
+use lib.ListN.{getD, length, take, length-take, replicate, set, length-set, length-replicate}
 use lib.Seq.{set-at, take-suc, take-length, length-take-le, append-snoc}
-use Rattle.parameters.specs.ParameterSet.{padded}
+use Rattle.kept.specs.Kept.{padded}
 
 -- n places, of which the first i are filled
 abbrev filled : ℕ → List ℕ → ℕ → List ℕ
@@ -38,3 +38,7 @@ unfolding padded
 filling-all n i xs h F =
     let e : i ≡ length xs = omega arith in
     F .2 ∙ ap (filled n xs) e ∙ ap (λ (k : List ℕ). k ++ replicate (n - length xs) 0) (take-length xs)
+
+-- the first numbers of a list are as few
+pub part-fits : (used n : ℕ) (xs : List ℕ) {ys : List ℕ} → used ≤ n → ys ≡ take used xs → length ys ≤ n
+part-fits used n xs h e = omega (arith, ap length e ∙ length-take used xs)

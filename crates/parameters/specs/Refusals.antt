@@ -1,4 +1,4 @@
--- Refusals 1 to 9 (Rules 8.1): each condition, and those of a set in their order.
+-- Refusals 1 to 9 and 18 (Rules 8.1): each condition, and those of a set in their order.
 use mathlib.Core.Bool.{Bool, not, _&&_, _||_}
 use mathlib.Core.List.{List, [], _∷_, _++_}
 use Prim.Native.Nat.{ℕ, _+_, _*_, _/_, _%_, _^_}
@@ -8,6 +8,7 @@ use Rattle.modular.specs.Arithmetic.{allWords}
 use Rattle.refusals.specs.Table.{Refusal, refusal}
 use Rattle.poseidon2.specs.Layers.{sum}
 use Rattle.poseidon2.specs.Inverse.{inverses, zeros}
+use Rattle.kept.specs.Kept.{fits}
 
 -- 1: the width is not 4, 8 or 12.
 unfoldable pub badWidth : ℕ → Bool
@@ -45,6 +46,10 @@ severalZeros D = ltb 1 (zeros D)
 unfoldable pub badDiagonal : ℕ → List ℕ → Bool
 badDiagonal p D = eqb (zeros D) 0 && eqb ((1 + sum (inverses p D)) % p) 0
 
+-- 18: what is kept is not the inverses of the words of D, one for each, and the inverse of 1 plus their sum (Rules 2.9).
+unfoldable pub badKept : ℕ → List ℕ → List ℕ → ℕ → Bool
+badKept p D es k = not (fits p D es k)
+
 -- The refusals of the five numbers.
 unfoldable pub numberRefusals : ℕ → ℕ → ℕ → ℕ → ℕ → List Refusal
 numberRefusals t l h rf rp =
@@ -64,7 +69,22 @@ diagonalRefusals p D =
 unfoldable pub listRefusals : ℕ → List ℕ → List ℕ → List Refusal
 listRefusals p D C = refusal 7 (not (allWords p D && allWords p C)) ∷ diagonalRefusals p D
 
--- The refusals of the five numbers and of the lists' lengths: those that a set has to pass to be held at all.
+-- The refusals of the used places of a set that is handed in: 18 is the last (Rules 2.7).
+unfoldable pub usedRefusals : ℕ → List ℕ → List ℕ → List ℕ → ℕ → List Refusal
+usedRefusals p D C es k = listRefusals p D C ++ (refusal 18 (badKept p D es k) ∷ [])
+
+-- The first and the last of these, as they are tested: 7 and 8 before a product is made, 9 and 18 together.
+unfoldable pub wordRefusals : ℕ → List ℕ → List ℕ → List Refusal
+wordRefusals p D C =
+    refusal 7 (not (allWords p D && allWords p C)) ∷
+    refusal 8 (severalZeros D) ∷ []
+
+unfoldable pub keptRefusals : ℕ → List ℕ → List ℕ → ℕ → List Refusal
+keptRefusals p D es k =
+    refusal 9 (badDiagonal p D) ∷
+    refusal 18 (badKept p D es k) ∷ []
+
+-- The refusals of the five numbers and of the lists' lengths.
 unfoldable pub shapeRefusals : ℕ → ℕ → ℕ → ℕ → ℕ → List ℕ → List ℕ → List Refusal
 shapeRefusals t l h rf rp D C = numberRefusals t l h rf rp ++ (refusal 6 (badLengths t rf rp D C) ∷ [])
 

@@ -7,8 +7,11 @@ ghost use lib.ListN.{length, take, getD};
 ghost use Rattle.modular.specs.Arithmetic.{allWords};
 ghost use Rattle.fields.specs.Prime.{prime};
 ghost use Rattle.refusals.specs.Table.{firstRefusal};
-ghost use Rattle.parameters.specs.ParameterSet.{padded, held, noSet, holding, validation, heldRefusals};
-ghost use Rattle.parameters.specs.Refusals.{badWidth, badNodeSize, badFullRounds, badPartialRounds, badHeight, badLengths, severalZeros, badDiagonal, numberRefusals, shapeRefusals, listRefusals, validationRefusals};
+ghost use Rattle.poseidon2.specs.Inverse.{zeros};
+ghost use Rattle.poseidon2.specs.Statements.{AcceptedDiagonal};
+ghost use Rattle.kept.specs.Kept.{padded};
+ghost use Rattle.parameters.specs.ParameterSet.{held, noSet, turnedDown, validation, withDiagonal, withHeight, heldRefusals, setRefusals};
+ghost use Rattle.parameters.specs.Refusals.{badWidth, badNodeSize, badFullRounds, badPartialRounds, badHeight, constantCount, badLengths, badDiagonal, numberRefusals, shapeRefusals, wordRefusals, keptRefusals, listRefusals, usedRefusals};
 
 pub struct ParameterSet {
     pub width: u64,
@@ -18,12 +21,8 @@ pub struct ParameterSet {
     pub partial_rounds: u64,
     pub diagonal: [u64; 12],
     pub constants: [u64; 208],
-}
-
-// A set that is held and not validated, or the number of the refusal of its shape and zeros.
-pub struct Held {
-    pub number: u8,
-    pub set: ParameterSet,
+    pub inverses: [u64; 12],
+    pub total_inverse: u64,
 }
 
 // 0 and the set, or the number of its first refusal and zeros. (An enum cannot hold the set's arrays.)
@@ -162,42 +161,16 @@ pub fn all_words(numbers: &[u64]) -> bool
     few_words(&numbers[i..])
 }
 
-fn several_zeros(numbers: &[u64]) -> bool
-    ensures { λ r. ⌜ r ≡ severalZeros (now (numbers .entry)) ⌝ }
-{
-    let mut zeros: usize = 0;
-    let mut i = 0;
-    while i < numbers.len() {
-        if numbers[i] == 0 {
-            zeros += 1;
-        }
-        i += 1;
-    }
-    if 1 < zeros {
-        return true;
-    }
-    false
-}
-
-// Whether no word of D is 0, and 1 and their inverses sum to 0; without an inversion: that sum times the product of all D is the product
-// plus the sum of all products that leave one out, two products a word. With one 0 in D the product of the others alone is left, which is
-// not 0.
-fn bad_diagonal(diagonal: &[u64]) -> bool
-    requires { ⌜ (allWords prime (now diagonal) ≡ true) × (severalZeros (now diagonal) ≡ false) ⌝ }
+// Whether no word of D is 0, and 1 and their inverses sum to 0: that sum times the product of all D, so without an inversion.
+fn bad_diagonal(zero_count: usize, diagonal: &[u64]) -> bool
+    requires { ⌜ («zero_count» ≡ zeros (now diagonal)) × (length (now diagonal) ≤ 12) × (allWords prime (now diagonal) ≡ true) ⌝ }
     ensures { λ r. ⌜ r ≡ badDiagonal prime (now (diagonal .entry)) ⌝ }
 {
-    let mut all: u64 = 1;
-    let mut but_one: u64 = 0;
-    let mut i = 0;
-    while i < diagonal.len() {
-        but_one = fields::lazy_product_sum(but_one, diagonal[i], all);
-        all = fields::lazy_product(all, diagonal[i]);
-        i += 1;
+    if zero_count != 0 {
+        return false;
     }
-    if fields::sum(fields::residue(all), fields::residue(but_one)) == 0 {
-        return true;
-    }
-    false
+    let products = kept::products_of(diagonal);
+    fields::residue(products.scaled) == 0
 }
 
 // The first of refusals 1 to 5 that applies, or 0.
@@ -228,9 +201,10 @@ fn refusal_of_numbers(
     0
 }
 
-// The first of refusals 7 to 9 that applies, or 0.
-fn refusal_of_lists(diagonal: &[u64], constants: &[u64]) -> u8
-    ensures { λ r. ⌜ r ≡ firstRefusal (listRefusals prime (now (diagonal .entry)) (now (constants .entry))) ⌝ }
+// The first of refusals 7 and 8 that applies, or 0, for a D of which so many numbers are 0.
+fn refusal_of_words(zero_count: usize, diagonal: &[u64], constants: &[u64]) -> u8
+    requires { ⌜ «zero_count» ≡ zeros (now diagonal) ⌝ }
+    ensures { λ r. ⌜ r ≡ firstRefusal (wordRefusals prime (now (diagonal .entry)) (now (constants .entry))) ⌝ }
 {
     if !all_words(diagonal) {
         return 7;
@@ -238,13 +212,60 @@ fn refusal_of_lists(diagonal: &[u64], constants: &[u64]) -> u8
     if !all_words(constants) {
         return 7;
     }
-    if several_zeros(diagonal) {
+    if 1 < zero_count {
         return 8;
     }
-    if bad_diagonal(diagonal) {
+    0
+}
+
+// The first of refusals 7 to 9 that applies, or 0.
+fn refusal_of_lists(diagonal: &[u64], constants: &[u64]) -> u8
+    requires { ⌜ length (now diagonal) ≤ 12 ⌝ }
+    ensures { λ r. ⌜ r ≡ firstRefusal (listRefusals prime (now (diagonal .entry)) (now (constants .entry))) ⌝ }
+{
+    let zero_count = kept::count_zeros(diagonal);
+    let number = refusal_of_words(zero_count, diagonal, constants);
+    if number != 0 {
+        return number;
+    }
+    if bad_diagonal(zero_count, diagonal) {
         return 9;
     }
     0
+}
+
+// The first of refusals 9 and 18 that applies, or 0, for a D of words of which so many are 0. Kept values that fit leave no sum to test: its
+// inverse is kept, and is 0 only where the sum is.
+fn refusal_of_kept(zero_count: usize, diagonal: &[u64], inverses: &[u64], total_inverse: u64) -> u8
+    requires { ⌜ («zero_count» ≡ zeros (now diagonal)) × (length (now diagonal) ≤ 12) × (allWords prime (now diagonal) ≡ true) × (length (now inverses) ≡ length (now diagonal)) ⌝ }
+    ensures { λ r. ⌜ r ≡ firstRefusal (keptRefusals prime (now (diagonal .entry)) (now (inverses .entry)) «total_inverse») ⌝ }
+{
+    if !kept::fits(zero_count, diagonal, inverses, total_inverse) {
+        if bad_diagonal(zero_count, diagonal) {
+            return 9;
+        }
+        return 18;
+    }
+    if zero_count != 0 {
+        return 0;
+    }
+    if total_inverse == 0 {
+        return 9;
+    }
+    0
+}
+
+// The first of refusals 7 to 9 and 18 that applies to the used places of a set, or 0.
+fn refusal_of_used(diagonal: &[u64], constants: &[u64], inverses: &[u64], total_inverse: u64) -> u8
+    requires { ⌜ (length (now diagonal) ≤ 12) × (length (now inverses) ≡ length (now diagonal)) ⌝ }
+    ensures { λ r. ⌜ r ≡ firstRefusal (usedRefusals prime (now (diagonal .entry)) (now (constants .entry)) (now (inverses .entry)) «total_inverse») ⌝ }
+{
+    let zero_count = kept::count_zeros(diagonal);
+    let number = refusal_of_words(zero_count, diagonal, constants);
+    if number != 0 {
+        return number;
+    }
+    refusal_of_kept(zero_count, diagonal, inverses, total_inverse)
 }
 
 // Whether D or C has another length than the numbers say.
@@ -284,28 +305,8 @@ fn refusal_of_shape(numbers: [u64; 5], diagonal: &[u64], constants: &[u64]) -> u
     0
 }
 
-// The first of refusals 1 to 9 that applies, or 0.
-pub fn refusal_of(
-    width: u64,
-    node_size: u64,
-    height: u64,
-    full_rounds: u64,
-    partial_rounds: u64,
-    diagonal: &[u64],
-    constants: &[u64],
-) -> u8
-    ensures { λ r. ⌜ r ≡ firstRefusal (validationRefusals prime width «node_size» height «full_rounds» «partial_rounds» (now (diagonal .entry)) (now (constants .entry))) ⌝ }
-{
-    let numbers = [width, node_size, height, full_rounds, partial_rounds];
-    let number = refusal_of_shape(numbers, diagonal, constants);
-    if number != 0 {
-        return number;
-    }
-    refusal_of_lists(diagonal, constants)
-}
-
-// The places for D: the list, and zeros beyond it.
-fn hold_diagonal(list: &[u64]) -> [u64; 12]
+// Twelve places, for D or for inverses: the list, and zeros beyond it.
+fn hold_twelve(list: &[u64]) -> [u64; 12]
     requires { ⌜ length (now list) ≤ 12 ⌝ }
     ensures { λ r. ⌜ r ≡ padded 12 (now (list .entry)) ⌝ }
 {
@@ -343,37 +344,43 @@ fn no_set() -> ParameterSet
         partial_rounds: 0,
         diagonal: [0; 12],
         constants: [0; 208],
+        inverses: [0; 12],
+        total_inverse: 0,
     }
 }
 
-// The set of the five numbers and two lists, for an entry to validate, or the number of the first refusal of its shape, from 1 to 6.
-pub fn hold(numbers: [u64; 5], diagonal: &[u64], constants: &[u64]) -> Held
-    ensures { λ r. ⌜ r ≡ holding (getD numbers 0 0) (getD numbers 1 0) (getD numbers 2 0) (getD numbers 3 0) (getD numbers 4 0) (now (diagonal .entry)) (now (constants .entry)) ⌝ }
+// A refusal's number, and zeros in the place of a set.
+pub fn turned_down(number: u8) -> Validation
+    ensures { λ r. ⌜ r ≡ turnedDown number ⌝ }
+{
+    Validation {
+        number: number,
+        parameters: no_set(),
+    }
+}
+
+// The set of five numbers and two lists that none of refusals 1 to 9 turns down.
+fn hold(numbers: [u64; 5], diagonal: &[u64], constants: &[u64]) -> ParameterSet
+    requires { ⌜ (length (now diagonal) ≤ 12) × (length (now constants) ≤ 208) × AcceptedDiagonal prime (length (now diagonal)) (now diagonal) ⌝ }
+    ensures { λ r. ⌜ r ≡ held prime (getD numbers 0 0) (getD numbers 1 0) (getD numbers 2 0) (getD numbers 3 0) (getD numbers 4 0) (now (diagonal .entry)) (now (constants .entry)) ⌝ }
 {
     let width = numbers[0];
     let node_size = numbers[1];
     let height = numbers[2];
     let full_rounds = numbers[3];
     let partial_rounds = numbers[4];
-    let number = refusal_of_shape(numbers, diagonal, constants);
-    if number != 0 {
-        return Held {
-            number: number,
-            set: no_set(),
-        };
-    }
-    let set = ParameterSet {
+    let kept = kept::keep(diagonal);
+    let inverses = kept.inverses;
+    ParameterSet {
         width: width,
         node_size: node_size,
         height: height,
         full_rounds: full_rounds,
         partial_rounds: partial_rounds,
-        diagonal: hold_diagonal(diagonal),
+        diagonal: hold_twelve(diagonal),
         constants: hold_constants(constants),
-    };
-    Held {
-        number: 0,
-        set: set,
+        inverses: inverses,
+        total_inverse: kept.total_inverse,
     }
 }
 
@@ -390,24 +397,17 @@ pub fn validate(
     ensures { λ r. ⌜ r ≡ validation prime width «node_size» height «full_rounds» «partial_rounds» (now (diagonal .entry)) (now (constants .entry)) ⌝ }
 {
     let numbers = [width, node_size, height, full_rounds, partial_rounds];
-    let held = hold(numbers, diagonal, constants);
-    let set = held.set;
-    if held.number != 0 {
-        return Validation {
-            number: held.number,
-            parameters: set,
-        };
-    }
-    let number = refusal_of_lists(diagonal, constants);
+    let number = refusal_of_shape(numbers, diagonal, constants);
     if number != 0 {
-        return Validation {
-            number: number,
-            parameters: no_set(),
-        };
+        return turned_down(number);
+    }
+    let list_number = refusal_of_lists(diagonal, constants);
+    if list_number != 0 {
+        return turned_down(list_number);
     }
     Validation {
         number: 0,
-        parameters: set,
+        parameters: hold(numbers, diagonal, constants),
     }
 }
 
@@ -438,8 +438,10 @@ pub fn refusal_of_set(
     partial_rounds: u64,
     diagonal: &[u64; 12],
     constants: &[u64; 208],
+    inverses: &[u64; 12],
+    total_inverse: u64,
 ) -> u8
-    ensures { λ r. ⌜ r ≡ firstRefusal (heldRefusals prime width «node_size» height «full_rounds» «partial_rounds» (now (diagonal .entry)) (now (constants .entry))) ⌝ }
+    ensures { λ r. ⌜ r ≡ firstRefusal (heldRefusals prime width «node_size» height «full_rounds» «partial_rounds» (take width (now (diagonal .entry))) (take (constantCount width «full_rounds» «partial_rounds») (now (constants .entry))) (take width (now (inverses .entry))) «total_inverse») ⌝ }
 {
     let number = refusal_of_numbers(width, node_size, height, full_rounds, partial_rounds);
     if number != 0 {
@@ -447,5 +449,101 @@ pub fn refusal_of_set(
     }
     let used = width as usize;
     let count = (width * full_rounds + partial_rounds) as usize;
-    refusal_of_lists(first(diagonal, used), first(constants, count))
+    refusal_of_used(
+        first(diagonal, used),
+        first(constants, count),
+        first(inverses, used),
+        total_inverse,
+    )
+}
+
+// The used places of D or of the kept inverses, and zeros beyond.
+fn hold_used(places: &[u64; 12], used: usize) -> [u64; 12]
+    requires { ⌜ used ≤ 12 ⌝ }
+    ensures { λ r. ⌜ (r ≡ padded 12 (take used (now (places .entry)))) × (length (now (places .entry)) ≡ 12) ⌝ }
+{
+    hold_twelve(first(places, used))
+}
+
+// The used places of C, and zeros beyond.
+fn hold_used_constants(places: &[u64; 208], used: usize) -> [u64; 208]
+    requires { ⌜ used ≤ 208 ⌝ }
+    ensures { λ r. ⌜ (r ≡ padded 208 (take used (now (places .entry)))) × (length (now (places .entry)) ≡ 208) ⌝ }
+{
+    hold_constants(first(places, used))
+}
+
+// Validation of five numbers, a D, and the used places of C.
+fn validate_used(
+    numbers: [u64; 5],
+    diagonal: &[u64],
+    places: &[u64; 208],
+    used: usize,
+) -> Validation
+    requires { ⌜ used ≤ 208 ⌝ }
+    ensures { λ r. ⌜ r ≡ validation prime (getD numbers 0 0) (getD numbers 1 0) (getD numbers 2 0) (getD numbers 3 0) (getD numbers 4 0) (now (diagonal .entry)) (take used (now (places .entry))) ⌝ }
+{
+    let width = numbers[0];
+    let node_size = numbers[1];
+    let height = numbers[2];
+    let full_rounds = numbers[3];
+    let partial_rounds = numbers[4];
+    let constants = first(places, used);
+    validate(
+        width,
+        node_size,
+        height,
+        full_rounds,
+        partial_rounds,
+        diagonal,
+        constants,
+    )
+}
+
+// A set that is not refused, with another D in the place of its own.
+pub fn with_diagonal(set: ParameterSet, diagonal: &[u64]) -> Validation
+    requires { ⌜ firstRefusal (setRefusals set) ≡ 0 ⌝ }
+    ensures { λ r. ⌜ r ≡ withDiagonal set (now (diagonal .entry)) ⌝ }
+{
+    let count = (set.width * set.full_rounds + set.partial_rounds) as usize;
+    let constants = set.constants;
+    let numbers = [
+        set.width,
+        set.node_size,
+        set.height,
+        set.full_rounds,
+        set.partial_rounds,
+    ];
+    validate_used(numbers, diagonal, &constants, count)
+}
+
+// A set that is not refused, with another height in the place of its own: of the refusals of the outcome only 5 can apply, and what is kept
+// is kept for the same D.
+pub fn with_height(set: ParameterSet, other: u64) -> Validation
+    requires { ⌜ firstRefusal (setRefusals set) ≡ 0 ⌝ }
+    ensures { λ r. ⌜ r ≡ withHeight set other ⌝ }
+{
+    if bad_height(set.width / set.node_size, other) {
+        return turned_down(5);
+    }
+    let used = set.width as usize;
+    let count = (set.width * set.full_rounds + set.partial_rounds) as usize;
+    let diagonal = set.diagonal;
+    let constants = set.constants;
+    let inverses = set.inverses;
+    let exchanged = ParameterSet {
+        width: set.width,
+        node_size: set.node_size,
+        height: other,
+        full_rounds: set.full_rounds,
+        partial_rounds: set.partial_rounds,
+        diagonal: hold_used(&diagonal, used),
+        constants: hold_used_constants(&constants, count),
+        inverses: hold_used(&inverses, used),
+        total_inverse: set.total_inverse,
+    };
+    Validation {
+        number: 0,
+        parameters: exchanged,
+    }
 }

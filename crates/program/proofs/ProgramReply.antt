@@ -6,18 +6,18 @@ use mathlib.Core.List.{List, [], _∷_, _++_}
 use Prim.Native.Nat.{ℕ, _/_, _%_, _≤_, _<_}
 use native.Mathlib.Omega.{arith}
 use native.Mathlib.Nat.{mul-le-mul-right, div-mul-le-self}
-use lib.Dec.{eqb, lit<}
+use lib.Dec.{lit<}
 use lib.ListN.{length}
-use lib.Seq.{take-at}
-use borrow.Author.Tests.{lt-ltb, le-ltb, eq-eqb, ne-eqb, eqb-true, not-false}
-use Rattle.modular.proofs.Words.{left-true, right-true}
+use borrow.Author.Tests.{lt-ltb, le-ltb, eq-eqb, ne-eqb}
 use Rattle.refusals.specs.Table.{Refusal, refusal, notWords, firstRefusal, refused, done, reply, after}
-use Rattle.refusals.proofs.Table.{Numbered, next, numbered-append, refusal-none, first-front, first-back, first-none, reply-refused, written-after, applied, passed}
+use Rattle.refusals.proofs.Table.{Numbered, next, numbered-append, first-front, reply-refused, written-after, applied, passed}
 use Rattle.parameters.specs.declared.ParameterSet.{ParameterSet}
 use Rattle.parameters.specs.declared.Validation.{Validation}
-use Rattle.parameters.specs.ParameterSet.{primeOf, held, padded, validation, heldRefusals, setRefusals}
-use Rattle.parameters.specs.Refusals.{constantCount, numberRefusals, listRefusals, badLengths, validationRefusals}
-use Rattle.parameters.proofs.Accepted.{numbers-of, numbers-numbered, lists-numbered, set-numbered, width-fits}
+use Rattle.fields.specs.Prime.{prime}
+use Rattle.parameters.specs.ParameterSet.{primeOf, held, validation, setRefusals}
+use Rattle.parameters.proofs.Validated.{is-held, held-taken, shape}
+use Rattle.parameters.specs.Refusals.{validationRefusals}
+use Rattle.parameters.proofs.Accepted.{numbers-numbered, lists-numbered, set-numbered, width-fits}
 use Rattle.merkle.specs.Storeless.{storelessRoot}
 use Rattle.state_entries.specs.declared.outcome.Outcome.{Outcome}
 use Rattle.state_entries.specs.declared.outcome.Outcome.the-variants.{Done, Refused}
@@ -66,44 +66,27 @@ and-true false b e = refl
 -- What validation says of its refusals.
 module _ (t l h rf rp : ℕ) (D C : List ℕ) where
   abbrev refusals : List Refusal
-  refusals = validationRefusals (primeOf (held t l h rf rp D C)) t l h rf rp D C
+  refusals = validationRefusals prime t l h rf rp D C
 
   all-numbered : Numbered refusals
   unfolding validationRefusals
-  all-numbered = numbered-append (numbers-numbered t l h rf rp) (next (lit< tt) (lists-numbered (primeOf (held t l h rf rp D C)) D C))
+  all-numbered = numbered-append (numbers-numbered t l h rf rp) (next (lit< tt) (lists-numbered prime D C))
 
-  number-is : validation (primeOf (held t l h rf rp D C)) t l h rf rp D C .number ≡ firstRefusal refusals
+  number-is : validation prime t l h rf rp D C .number ≡ firstRefusal refusals
   unfolding validation
   number-is = refl
 
   module _ (none-applies : firstRefusal refusals ≡ 0) where
-    set-is : validation (primeOf (held t l h rf rp D C)) t l h rf rp D C .parameters ≡ held t l h rf rp D C
-    unfolding validation
-    set-is = rw (eq-eqb (firstRefusal refusals) 0 none-applies)
-
-    parts : (firstRefusal (numberRefusals t l h rf rp) ≡ 0) × (firstRefusal (refusal 6 (badLengths t rf rp D C) ∷ listRefusals (primeOf (held t l h rf rp D C)) D C) ≡ 0)
-    unfolding validationRefusals
-    parts = first-none (numberRefusals t l h rf rp) (refusal 6 (badLengths t rf rp D C) ∷ listRefusals (primeOf (held t l h rf rp D C)) D C) (numbers-numbered t l h rf rp) none-applies
-
-    lengths : (length D ≡ t) × (length C ≡ constantCount t rf rp)
-    unfolding badLengths
-    lengths =
-        let b = not-false (eqb (length D) t && eqb (length C) (constantCount t rf rp)) (refusal-none 5 (badLengths t rf rp D C) (listRefusals (primeOf (held t l h rf rp D C)) D C) (parts .1) .0) in (
-          eqb-true (length D) t (left-true (eqb (length D) t) (eqb (length C) (constantCount t rf rp)) b),
-          eqb-true (length C) (constantCount t rf rp) (right-true (eqb (length D) t) (eqb (length C) (constantCount t rf rp)) b),
-        )
+    set-is : validation prime t l h rf rp D C .parameters ≡ held prime t l h rf rp D C
+    set-is = is-held prime t l h rf rp D C (number-is ∙ none-applies)
 
     -- the set that is held is not refused itself
-    passes-again : firstRefusal (setRefusals (held t l h rf rp D C)) ≡ 0
-    unfolding setRefusals heldRefusals held padded
-    passes-again =
-        rw (take-at D _ t (lengths .0), take-at C _ (constantCount t rf rp) (lengths .1))
-        (first-back (numberRefusals t l h rf rp) (listRefusals (primeOf (held t l h rf rp D C)) D C) (numbers-numbered t l h rf rp) (parts .0)
-        ∙ refusal-none 5 (badLengths t rf rp D C) (listRefusals (primeOf (held t l h rf rp D C)) D C) (parts .1) .1)
+    passes-again : firstRefusal (setRefusals (held prime t l h rf rp D C)) ≡ 0
+    passes-again = held-taken t l h rf rp D C (number-is ∙ none-applies)
 
     node-few : l ≤ 6
     node-few =
-        let N = numbers-of t l h rf rp (parts .0) in
+        let N = shape prime t l h rf rp D C (number-is ∙ none-applies) .numbers in
         omega (arith, mul-le-mul-right l (N .nodeSize .several), div-mul-le-self t l, width-fits t (N .width))
 
 module _ (ns : List ℕ) (v : Validation) (e : v ≡ readValidation ns) where

@@ -9,6 +9,7 @@ use Rattle.bytes.specs.Numbers.{numbersOf, decimal}
 use Rattle.refusals.specs.Table.{Refusal, refusal, notWords, Reply, refused, done, reply}
 use Rattle.parameters.specs.declared.ParameterSet.{ParameterSet}
 use Rattle.parameters.specs.declared.Validation.{Validation}
+use Rattle.fields.specs.Prime.{prime}
 use Rattle.parameters.specs.ParameterSet.{primeOf, held, validation}
 use Rattle.parameters.specs.Refusals.{constantCount, validationRefusals}
 use Rattle.merkle.specs.Storeless.{storelessRoot}
@@ -49,17 +50,17 @@ module _ (numbers : List ℕ) where
 
   -- the set of the numbers that were read
   abbrev pub readSet : ParameterSet
-  readSet = held readWidth readNodeSize readHeight readFullRounds readPartialRounds readDiagonal readConstants
+  readSet = held prime readWidth readNodeSize readHeight readFullRounds readPartialRounds readDiagonal readConstants
 
 -- What validation answers to the numbers that were read. A list that ended too early is refused with 6, if nothing lower applies.
 unfoldable pub readValidation : List ℕ → Validation
 readValidation ns =
-    validation (primeOf (readSet ns)) (readWidth ns) (readNodeSize ns) (readHeight ns) (readFullRounds ns) (readPartialRounds ns) (readDiagonal ns) (readConstants ns)
+    validation prime (readWidth ns) (readNodeSize ns) (readHeight ns) (readFullRounds ns) (readPartialRounds ns) (readDiagonal ns) (readConstants ns)
 
 -- The refusals of the numbers: those of validation; then 10 and 12 for the leaves (Rules 8.8).
 unfoldable pub readRefusals : List ℕ → List Refusal
 readRefusals ns =
-    validationRefusals (primeOf (readSet ns)) (readWidth ns) (readNodeSize ns) (readHeight ns) (readFullRounds ns) (readPartialRounds ns) (readDiagonal ns) (readConstants ns)
+    validationRefusals prime (readWidth ns) (readNodeSize ns) (readHeight ns) (readFullRounds ns) (readPartialRounds ns) (readDiagonal ns) (readConstants ns)
     ++ (refusal 10 (not (has (readLeaves ns) (leafWords (readSet ns)))) ∷ notWords (primeOf (readSet ns)) (readLeaves ns) ∷ [])
 
 unfoldable pub readRoot : List ℕ → List ℕ

@@ -2,8 +2,7 @@
 use mathlib.Core.Path.{_≡_}
 use mathlib.Core.Bool.{not, true, _&&_}
 use mathlib.Core.List.{List}
-use Prim.Native.Nat.{ℕ, _+_, _*_, _/_, _≤_, _<_}
-use native.Mathlib.Omega.{arith}
+use Prim.Native.Nat.{ℕ, _+_, _*_, _/_, _≤_}
 use lib.Dec.{eqb}
 use lib.ListN.{length, take}
 use borrow.Author.Tests.{eqb-true, not-false}
@@ -11,10 +10,10 @@ use Rattle.modular.specs.Arithmetic.{allWords}
 use Rattle.modular.proofs.Words.{left-true, right-true}
 use Rattle.refusals.specs.Table.{firstRefusal}
 use Rattle.refusals.proofs.Table.{Numbered}
+use Rattle.poseidon2.specs.Inverse.{inverses, totalInverse}
 use Rattle.poseidon2.specs.Statements.{Width, Words, AcceptedDiagonal}
-use Rattle.fields.proofs.Prime.{positive}
 use Rattle.parameters.specs.declared.ParameterSet.{ParameterSet}
-use Rattle.parameters.specs.ParameterSet.{primeOf, setRefusals}
+use Rattle.parameters.specs.ParameterSet.{primeOf, usedDiagonal, usedInverses, setRefusals}
 use Rattle.parameters.proofs.Accepted.{set-numbered}
 use Rattle.state_entries.specs.Permutation.{stateRefusals, compressRefusals}
 use Rattle.refusals.proofs.LengthsAndWords.{all-numbered, passed}
@@ -29,6 +28,8 @@ pub record Accepted (s : ParameterSet) (xs : List ℕ) : Type 0 where
   pub partial-few : s .«partial_rounds» ≤ 64
   pub constants : Words (primeOf s) (take (s .width * (2 * (s .«full_rounds» / 2)) + s .«partial_rounds») (s .constants))
   pub diagonal : length (s .diagonal) ≡ 12 → AcceptedDiagonal (primeOf s) (s .width) (take (s .width) (s .diagonal))
+  pub inverses : take (s .width) (s .inverses) ≡ inverses (primeOf s) (take (s .width) (s .diagonal))
+  pub total : s .«total_inverse» ≡ totalInverse (primeOf s) (take (s .width) (s .diagonal))
   pub long : length xs ≡ s .width
   pub words : allWords (primeOf s) xs ≡ true
 
@@ -38,17 +39,19 @@ state-numbered s xs = all-numbered (primeOf s) (setRefusals s) (set-numbered s) 
 
 -- the same where a set alone is accepted
 by-set : (s : ParameterSet) (xs : List ℕ) → firstRefusal (setRefusals s) ≡ 0 → length xs ≡ s .width → allWords (primeOf s) xs ≡ true → Accepted s xs
-unfolding setRefusals
+unfolding usedDiagonal usedInverses
 by-set s xs none long words =
-    let N = sets.numbers (primeOf s) _ _ _ _ _ _ _ positive none in
+    let N = sets.numbers s none in
     record {
       set = none;
       width = N .width;
-      half-some = sets.half-some (primeOf s) _ _ _ _ _ _ _ positive none;
-      half-few = sets.half-few (primeOf s) _ _ _ _ _ _ _ positive none;
+      half-some = sets.half-some s none;
+      half-few = sets.half-few s none;
       partial-few = N .rounds .fewPartial;
-      constants = sets.used-constants (primeOf s) _ _ _ _ _ _ _ positive none;
-      diagonal = λ e. sets.used-diagonal (primeOf s) _ _ _ _ _ _ _ positive none (omega (arith, sets.width-few (primeOf s) _ _ _ _ _ _ _ positive none));
+      constants = sets.used-constants s none;
+      diagonal = sets.used-diagonal s none;
+      inverses = sets.kept s none .inverses;
+      total = sets.kept s none .total;
       long = long;
       words = words;
     }

@@ -2,18 +2,17 @@
 use mathlib.Core.Path.{_≡_, refl, sym, ap, _∙_}
 use mathlib.Core.Bool.{not}
 use mathlib.Core.List.{List, []}
-use Prim.Native.Nat.{ℕ, zero, suc, _<_, _≤_}
+use Prim.Native.Nat.{ℕ, zero, suc}
 use native.Mathlib.Omega.{arith}
 use lib.ListN.{length, take}
 use borrow.Author.Tests.{eq-eqb}
-use Rattle.modular.specs.Arithmetic.{allWords}
 use Rattle.fields.proofs.Prime.{positive, prime-field}
 use Rattle.modular.proofs.Words.{words-by}
-use Rattle.refusals.specs.Table.{firstRefusal, Reply, refused, done, reply, after}
+use Rattle.refusals.specs.Table.{firstRefusal, refused, done, after}
 use Rattle.refusals.proofs.Table.{reply-refused, reply-done, kept-after, written-after}
 use Rattle.refusals.proofs.LengthsAndWords.{at-none}
 use Rattle.parameters.specs.declared.ParameterSet.{ParameterSet}
-use Rattle.parameters.specs.ParameterSet.{primeOf, setRefusals}
+use Rattle.parameters.specs.ParameterSet.{primeOf, usedDiagonal, setRefusals}
 use Rattle.parameters.proofs.Accepted.{set-numbered}
 use Rattle.poseidon2.specs.Layers.{addLists}
 use Rattle.poseidon2.specs.Compression.{compress}
@@ -22,23 +21,22 @@ use Rattle.poseidon2.proofs.Rounds.{claims}
 use Rattle.state_entries.specs.Permutation.{permuteUnder, unpermuteUnder, compressUnder, stateRefusals, stateReply, permuted, unpermuted, compressRefusals, compressReply, compressed}
 use Rattle.state_entries.specs.Statements.{Places, UnderAccepted, InTurn, PermutationClaims}
 use Rattle.parameters.proofs.AcceptedSets as sets
-use Rattle.state_entries.proofs.AcceptedStates.{accepted, accepted-compression, state-numbered, compression-numbered}
+use Rattle.state_entries.proofs.AcceptedStates.{accepted, accepted-compression, state-numbered}
 
 module _ (s : ParameterSet) (P : Places s) where
   module _ (none : firstRefusal (setRefusals s) ≡ 0) where
     undo : Undo (primeOf s) (s .width) (permuteUnder s) (unpermuteUnder s)
-    unfolding permuteUnder unpermuteUnder setRefusals
+    unfolding permuteUnder unpermuteUnder usedDiagonal
     undo =
-        let N = sets.numbers (primeOf s) _ _ _ _ _ (s .diagonal) (s .constants) positive none in
-        let fits : s .width ≤ length (s .diagonal) = omega (arith, sets.width-few (primeOf s) _ _ _ _ _ (s .diagonal) (s .constants) positive none, P .diagonal) in
-        let D = sets.used-diagonal (primeOf s) _ _ _ _ _ (s .diagonal) (s .constants) positive none fits in
+        let N = sets.numbers s none in
+        let D = sets.used-diagonal s none (P .diagonal) in
         let U = claims (primeOf s) prime-field .invertible .permutation (s .width) _ _ (s .diagonal) (s .constants) (N .width) D in
         record { to = U .to; from = U .from; back = U .back; forth = U .forth }
 
     pub under-accepted : UnderAccepted s
-    unfolding permuteUnder compressUnder compress setRefusals
+    unfolding permuteUnder compressUnder compress
     under-accepted =
-        let N = sets.numbers (primeOf s) _ _ _ _ _ (s .diagonal) (s .constants) positive none in
+        let N = sets.numbers s none in
         record {
           inverse = undo;
           compression = λ xs S. (refl, claims (primeOf s) prime-field .sizes .compression (s .width) _ _ _ _ _ xs (N .width) (S .width) (sets.node-size-fits s none));

@@ -35,6 +35,7 @@ pub fn refusal_of(set: ParameterSet) -> u8
 {
     let diagonal = set.diagonal;
     let constants = set.constants;
+    let inverses = set.inverses;
     parameters::refusal_of_set(
         set.width,
         set.node_size,
@@ -43,5 +44,7 @@ pub fn refusal_of(set: ParameterSet) -> u8
         set.partial_rounds,
         &diagonal,
         &constants,
+        &inverses,
+        set.total_inverse,
     )
 }

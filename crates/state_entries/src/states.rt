@@ -51,9 +51,17 @@ pub fn unpermute(set: ParameterSet, state: &mut [u64]) -> Outcome
     let width = set.width as usize;
     let half = (set.full_rounds / 2) as usize;
     let partial_rounds = set.partial_rounds as usize;
-    let diagonal = set.diagonal;
     let constants = set.constants;
-    permutations::unpermute(width, half, partial_rounds, &diagonal, &constants, state);
+    let inverses = set.inverses;
+    permutations::unpermute(
+        width,
+        half,
+        partial_rounds,
+        &inverses,
+        set.total_inverse,
+        &constants,
+        state,
+    );
     Outcome::Done
 }
 

@@ -1,14 +1,14 @@
 -- The tree of a set that is accepted: what the tree's work is handed.
 use mathlib.Core.Path.{_≡_, refl, ap, _∙_}
 use mathlib.Core.List.{List}
-use Prim.Native.Nat.{ℕ, _+_, _*_, _-_, _/_, _^_, _≤_, _<_}
+use Prim.Native.Nat.{ℕ, _+_, _*_, _-_, _/_, _^_, _≤_}
 use native.Mathlib.Nat.{div-add-mod', div-le-self, mul-le-mul, mul-le-mul-right, one-le-pow}
 use native.Mathlib.Omega.{arith}
 use lib.ListN.{length, length-drop}
 use Rattle.refusals.specs.Table.{firstRefusal}
 use Rattle.fields.proofs.Prime.{positive}
 use Rattle.parameters.specs.declared.ParameterSet.{ParameterSet}
-use Rattle.parameters.specs.ParameterSet.{primeOf, setRefusals}
+use Rattle.parameters.specs.ParameterSet.{setRefusals}
 use Rattle.parameters.proofs.Accepted.{Numbers}
 use Rattle.merkle.specs.Levels.{Regular, nodesBefore, start, size, build, root}
 use Rattle.merkle.specs.Storeless.{storelessRoot}
@@ -25,7 +25,7 @@ use Rattle.parameters.proofs.AcceptedSets as sets
 module _ (s : ParameterSet) (none : firstRefusal (setRefusals s) ≡ 0) where
   numbers : Numbers (s .width) (s .«node_size») (s .height) (s .«full_rounds») (s .«partial_rounds»)
   unfolding setRefusals
-  numbers = sets.numbers (primeOf s) _ _ _ _ _ (s .diagonal) (s .constants) positive none
+  numbers = sets.numbers s none
 
   pub size-positive : s .«node_size» ≡ 0 → ⊥
   size-positive = numbers .nodeSize .positive
@@ -47,8 +47,8 @@ module _ (s : ParameterSet) (none : firstRefusal (setRefusals s) ≡ 0) where
     several = numbers .nodeSize .several;
     low = numbers .height .low;
     few = numbers .height .leaves;
-    someRounds = sets.half-some (primeOf s) _ _ _ _ _ (s .diagonal) (s .constants) positive none;
-    fullRounds = sets.half-few (primeOf s) _ _ _ _ _ (s .diagonal) (s .constants) positive none;
+    someRounds = sets.half-some s none;
+    fullRounds = sets.half-few s none;
     partialRounds = numbers .rounds .fewPartial;
   }
 
@@ -56,7 +56,7 @@ module _ (s : ParameterSet) (none : firstRefusal (setRefusals s) ≡ 0) where
   unfolding setRefusals
   valid-set = record {
     numbers = valid-numbers;
-    words = rw width-is (sets.used-constants (primeOf s) _ _ _ _ _ (s .diagonal) (s .constants) positive none);
+    words = rw width-is (sets.used-constants s none);
   }
 
   -- products of the tree's numbers fit 64 bits

@@ -1,57 +1,42 @@
-use mathlib.Core.Path.{sym, _∙_}
+use mathlib.Core.Path.{_≡_, sym, ap, _∙_}
+use mathlib.Core.List.{[], _∷_}
 use borrow.Author.Needs.{needs}
-use borrow.Author.Tests.{not-true, not-false}
-use Rattle.refusals.specs.Table.{firstRefusal}
-use Rattle.parameters.specs.Refusals.{diagonalRefusals, listRefusals}
+use Rattle.fields.specs.Prime.{prime}
+use Rattle.refusals.specs.Table.{refusal, firstRefusal}
+use Rattle.refusals.proofs.Table.{front-answers, first-back, refusal-applies, refusal-passes}
+use Rattle.parameters.specs.Refusals.{badDiagonal, listRefusals}
+use Rattle.parameters.proofs.Accepted.{words-first, words-numbered, words-are}
 use Rattle.parameters.proofs.refusal_of_lists.Statement.{statement}
 use Rattle.parameters.proofs.refusal_of_lists.Tie as tie
 
 returns : tie.Need-returns
-unfolding firstRefusal listRefusals diagonalRefusals
-returns c = simp (sym (c .before .all-words .ensures) ∙ not-true _ (c .if1 .taken))
-
-returns-2 : tie.Need-returns-2
-unfolding firstRefusal listRefusals diagonalRefusals
-returns-2 c =
-    simp (
-      sym (c .before .before .before .all-words .ensures) ∙ not-false _ (c .before .before .if1 .left),
-      sym (c .before .all-words2 .ensures) ∙ not-true _ (c .if2 .taken),
-    )
-
-returns-3 : tie.Need-returns-3
-unfolding firstRefusal listRefusals diagonalRefusals
-returns-3 c =
-    simp (
-      sym (c .before .before .before .before .before .all-words .ensures) ∙ not-false _ (c .before .before .before .before .if1 .left),
-      sym (c .before .before .before .all-words2 .ensures) ∙ not-false _ (c .before .before .if2 .left),
-      sym (c .before .several-zeros .ensures) ∙ c .if3 .taken,
-    )
+returns c =
+    let a = c .before .before .before .before .before .args in
+    front-answers _ _ (c .before .refusal-of-words .ensures) (c .if1 .taken) ∙ sym (ap firstRefusal (words-first prime (a .diagonal .now) (a .constants .now)))
 
 bad-diagonal-requires : tie.Need-bad-diagonal-requires
-bad-diagonal-requires c κs = (sym (c .before .before .before .before .before .all-words .ensures) ∙ not-false _ (c .before .before .before .before .if1 .left), sym (c .before .several-zeros .ensures) ∙ c .if3 .left)
+bad-diagonal-requires c κs =
+    let z = c .before .before in
+    let s = z .before .before .before in
+    (z .count-zeros .ensures, s .pre, words-are prime (s .args .diagonal .now) (s .args .constants .now) (sym (c .before .refusal-of-words .ensures) ∙ c .if1 .left))
 
-returns-4 : tie.Need-returns-4
-unfolding firstRefusal listRefusals diagonalRefusals
-returns-4 c =
-    simp (
-      sym (c .before .before .before .before .before .before .before .all-words .ensures) ∙ not-false _ (c .before .before .before .before .before .before .if1 .left),
-      sym (c .before .before .before .before .before .all-words2 .ensures) ∙ not-false _ (c .before .before .before .before .if2 .left),
-      sym (c .before .before .before .several-zeros .ensures) ∙ c .before .before .if3 .left,
-      sym (c .before .bad-diagonal .ensures) ∙ c .if4 .taken,
-    )
+-- 9 alone is left
+nine-left : (c : tie.After-bad-diagonal) → let a = c .before .before .before .before .before .before .args in
+    firstRefusal (listRefusals prime (a .diagonal .now) (a .constants .now)) ≡ firstRefusal (refusal 9 (badDiagonal prime (a .diagonal .now)) ∷ [])
+nine-left c =
+    let e = c .before in
+    let a = e .before .before .before .before .before .args in
+    ap firstRefusal (words-first prime (a .diagonal .now) (a .constants .now))
+    ∙ first-back _ _ (words-numbered prime (a .diagonal .now) (a .constants .now)) (sym (e .before .refusal-of-words .ensures) ∙ e .if1 .left)
 
-returns-5 : tie.Need-returns-5
-unfolding firstRefusal listRefusals diagonalRefusals
-returns-5 c =
-    simp (
-      sym (c .before .before .before .before .before .before .before .all-words .ensures) ∙ not-false _ (c .before .before .before .before .before .before .if1 .left),
-      sym (c .before .before .before .before .before .all-words2 .ensures) ∙ not-false _ (c .before .before .before .before .if2 .left),
-      sym (c .before .before .before .several-zeros .ensures) ∙ c .before .before .if3 .left,
-      sym (c .before .bad-diagonal .ensures) ∙ c .if4 .left,
-    )
+returns-2 : tie.Need-returns-2
+returns-2 c = sym (nine-left (c .before) ∙ refusal-applies 9 _ _ (sym (c .before .bad-diagonal .ensures) ∙ c .if2 .taken))
+
+returns-3 : tie.Need-returns-3
+unfolding firstRefusal
+returns-3 c = sym (nine-left (c .before) ∙ refusal-passes 9 _ [] (sym (c .before .bad-diagonal .ensures) ∙ c .if2 .left))
 
 pub refusal-of-lists-spec : {M : Type 1} → statement M
 refusal-of-lists-spec =
     tie.close
-    (tie.spec (λ c. search needs) returns (λ c. search needs) returns-2 (λ c. search needs) returns-3 bad-diagonal-requires returns-4
-    returns-5)
+    (tie.spec (λ c κs. search needs) (λ c κs. c .count-zeros .ensures) returns bad-diagonal-requires returns-2 returns-3)

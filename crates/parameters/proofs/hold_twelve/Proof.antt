@@ -2,8 +2,8 @@ use Prim.Native.Nat.{_-_}
 use native.Mathlib.Omega.{arith}
 use lib.ListN.{length}
 use Rattle.parameters.proofs.Padding.{Filling, filling-none, filling-more, filling-all}
-use Rattle.parameters.proofs.hold_diagonal.Statement.{statement}
-use Rattle.parameters.proofs.hold_diagonal.Tie as tie
+use Rattle.parameters.proofs.hold_twelve.Statement.{statement}
+use Rattle.parameters.proofs.hold_twelve.Tie as tie
 
 abbrev Inv-loop : tie.InvT-loop
 Inv-loop list places₀ i₀ places i = Filling 12 list places i
@@ -24,8 +24,8 @@ returns c =
     let l = c .before in
     filling-all 12 (l .loop .i) (l .before .args .list .now) (omega arith) (l .loop .inv)
 
-pub hold-diagonal-spec : {M : Type 1} → statement M
-hold-diagonal-spec =
+pub hold-twelve-spec : {M : Type 1} → statement M
+hold-twelve-spec =
     tie.close
     (tie.spec Inv-loop μ-loop loop-holds (λ c. omega arith) (λ c. omega arith) (λ c. omega arith) (λ c. omega arith) (λ c. omega arith)
     (λ c. omega arith) loop-again returns)

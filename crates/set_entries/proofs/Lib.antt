@@ -1,0 +1,2 @@
+-- What is claimed of the exchanges.
+pub mod Statements
