@@ -2,7 +2,7 @@
 ghost use mathlib.Core.Path.{_≡_};
 ghost use Prim.Native.Nat.{_/_};
 ghost use lib.ListN.{length};
-ghost use Rattle.parameters.specs.ParameterSet.{holding};
+ghost use Rattle.set_arrays.specs.Arrays.{setOf};
 ghost use Rattle.pushes.specs.Listed.{listed};
 ghost use Rattle.measures.specs.Pushed.{beginning, found, firstPass, searching, Pushable};
 use pushes::steps::both;
@@ -40,48 +40,28 @@ fn found(tally: Tally) -> u64
 // The first pass over the records, with its part of the test for a place that stands twice, where `repeats` is 1, or without it.
 #[no_mangle]
 pub extern "C" fn measured_first_pass(
-    width: u64,
-    node_size: u64,
-    height: u64,
-    full_rounds: u64,
-    partial_rounds: u64,
-    diagonal: &[u64],
-    constants: &[u64],
+    set: &[u64; 238],
     numbers: &[u64],
     places: u64,
     repeats: u64,
 ) -> u64
-    requires { ⌜ Pushable (holding width «node_size» height «full_rounds» «partial_rounds» (now diagonal) (now constants) .set) places (length (now numbers) / 7) ⌝ }
-    ensures { λ r. ⌜ r ≡ firstPass (holding width «node_size» height «full_rounds» «partial_rounds» (now (diagonal .entry)) (now (constants .entry)) .set) places (length (now (numbers .entry)) / 7) repeats (listed (now (numbers .entry))) ⌝ }
+    requires { ⌜ Pushable (setOf (now set)) places (length (now numbers) / 7) ⌝ }
+    ensures { λ r. ⌜ r ≡ firstPass (setOf (now (set .entry))) places (length (now (numbers .entry)) / 7) repeats (listed (now (numbers .entry))) ⌝ }
 {
-    let five = [width, node_size, height, full_rounds, partial_rounds];
-    let held = parameters::hold(five, diagonal, constants);
-    let set = held.set;
+    let handed = set_arrays::read(set);
     let few = both(repeats == 1, numbers.len() / 7 <= 128);
     let mut seen = [0u64; 128];
     let begun = beginning(places, repeats == 1, few);
-    found(passes::test_listed(set, &mut seen, numbers, begun))
+    found(passes::test_listed(handed, &mut seen, numbers, begun))
 }
 
 // The search for a place that stands twice.
 #[no_mangle]
-pub extern "C" fn measured_search(
-    width: u64,
-    node_size: u64,
-    height: u64,
-    full_rounds: u64,
-    partial_rounds: u64,
-    diagonal: &[u64],
-    constants: &[u64],
-    numbers: &[u64],
-    places: u64,
-) -> u64
-    requires { ⌜ Pushable (holding width «node_size» height «full_rounds» «partial_rounds» (now diagonal) (now constants) .set) places (length (now numbers) / 7) ⌝ }
-    ensures { λ r. ⌜ r ≡ searching (holding width «node_size» height «full_rounds» «partial_rounds» (now (diagonal .entry)) (now (constants .entry)) .set) places (listed (now (numbers .entry))) ⌝ }
+pub extern "C" fn measured_search(set: &[u64; 238], numbers: &[u64], places: u64) -> u64
+    requires { ⌜ Pushable (setOf (now set)) places (length (now numbers) / 7) ⌝ }
+    ensures { λ r. ⌜ r ≡ searching (setOf (now (set .entry))) places (listed (now (numbers .entry))) ⌝ }
 {
-    let five = [width, node_size, height, full_rounds, partial_rounds];
-    let held = parameters::hold(five, diagonal, constants);
-    let set = held.set;
+    let handed = set_arrays::read(set);
     let begun = beginning(places, false, false);
-    found(passes::search_listed(set, numbers, begun))
+    found(passes::search_listed(handed, numbers, begun))
 }

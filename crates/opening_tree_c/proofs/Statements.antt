@@ -5,20 +5,16 @@ use mathlib.Core.Bool.{Bool, true, false, cond}
 use mathlib.Core.List.{List, [], _∷_}
 use Prim.Native.Nat.{ℕ, zero, suc}
 use native.Mathlib.Omega.{arith}
-use lib.Dec.{eqb}
-use borrow.Author.Tests.{eqb-true, eqb-false}
-use Rattle.refusals.specs.Table.{Refusal, firstRefusal, Reply, done, reply}
+use Rattle.refusals.specs.Table.{Refusal, firstRefusal, done, reply}
 use Rattle.refusals.proofs.Table.{Numbered, refused-equations, done-equations}
 use Rattle.parameters.specs.declared.ParameterSet.{ParameterSet}
-use Rattle.parameters.specs.declared.Held.{Held}
+use Rattle.set_arrays.specs.Arrays.{setOf}
 use Rattle.merkle.specs.Openings.{accepts}
 use Rattle.trees.specs.SetTrees.{treeOf}
 use Rattle.tree_entries.specs.Trees.{verifyRefusals, verifyReply}
 use Rattle.tree_entries.proofs.AcceptedTrees.{verify-numbered}
 use Rattle.replies.specs.Replies.{verdictNumber}
-use Rattle.opening_tree_c.specs.Exports.{through}
 use Rattle.opening_tree_c.specs.Statements.{Yes, returned, OnlyYes}
-use Rattle.opening_tree_c.proofs.Calls.{refused-verdict, entry-reply}
 
 -- 0 behind an entry's refusals: none applies, and the value is not 0
 zero-behind : (refusals : List Refusal) → Numbered refusals → (x : ℕ) → verdictNumber (reply refusals (x ∷ [])) ≡ 0 → (firstRefusal refusals ≡ 0) × (x ≢ 0)
@@ -37,34 +33,24 @@ is-true : (b : Bool) → _≢_ {A = ℕ} (cond b 1 0) 0 → b ≡ true
 is-true true o = refl
 is-true false o = absurd (o refl)
 
-module _ (v : Held) (top : List ℕ) (q : ℕ) (leaf siblings : List ℕ) where
-  abbrev entry : ParameterSet → Reply
-  entry s = verifyReply s top q leaf siblings
-
+module _ (xs top : List ℕ) (q : ℕ) (leaf siblings : List ℕ) where
   abbrev s : ParameterSet
-  s = v .set
+  s = setOf xs
 
   abbrev yes : Bool
   yes = accepts (treeOf s) (s .height) top q leaf siblings
 
-  is-yes : returned v top q leaf siblings ≡ 0 → Yes v top q leaf siblings
+  is-yes : returned xs top q leaf siblings ≡ 0 → Yes xs top q leaf siblings
   unfolding verifyReply
-  is-yes e = of (eqb (v .number) 0) refl
-    where
-      of : (b : Bool) → eqb (v .number) 0 ≡ b → Yes v top q leaf siblings
-      of true t =
-          let z = eqb-true (v .number) 0 t in
-          let R = zero-behind (verifyRefusals s top q leaf siblings) (verify-numbered s top q leaf siblings) (cond yes 1 0) (ap verdictNumber (entry-reply {w = v} {v = v} refl z entry) ∙ e) in
-          record { held = z; unrefused = R .0; accepted = is-true yes (R .1) }
-      of false f =
-          let o = eqb-false (v .number) 0 f in
-          absurd (o (refused-verdict {w = v} {v = v} refl o entry ∙ e))
+  is-yes e =
+      let R = zero-behind (verifyRefusals s top q leaf siblings) (verify-numbered s top q leaf siblings) (cond yes 1 0) e in
+      record { unrefused = R .0; accepted = is-true yes (R .1) }
 
-  is-zero : Yes v top q leaf siblings → returned v top q leaf siblings ≡ 0
+  is-zero : Yes xs top q leaf siblings → returned xs top q leaf siblings ≡ 0
   unfolding verifyReply verdictNumber
   is-zero y =
       let E = done-equations (verifyRefusals s top q leaf siblings) (cond yes 1 0 ∷ []) [] [] (verify-numbered s top q leaf siblings) (y .unrefused) .0 in
-      sym (ap verdictNumber (entry-reply {w = v} {v = v} refl (y .held) entry)) ∙ sym (ap verdictNumber E) ∙ ap (λ (b : Bool). verdictNumber (done (cond b 1 0 ∷ []))) (y .accepted)
+      sym (ap verdictNumber E) ∙ ap (λ (b : Bool). verdictNumber (done (cond b 1 0 ∷ []))) (y .accepted)
 
 pub only-yes : OnlyYes
-only-yes v top q leaf siblings = (is-yes v top q leaf siblings, is-zero v top q leaf siblings)
+only-yes xs top q leaf siblings = (is-yes xs top q leaf siblings, is-zero xs top q leaf siblings)

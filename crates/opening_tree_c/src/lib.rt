@@ -4,5 +4,6 @@ pub mod arithmetic;
 pub mod changes;
 pub mod files;
 pub mod reading;
+pub mod sets;
 pub mod states;
 pub mod tree;

@@ -10,15 +10,15 @@ use Rattle.measures.proofs.pushed.measured_first_pass.Tie as tie
 test-listed-requires : tie.Need-test-listed-requires
 test-listed-requires c κs =
     let b = c .before in
-    let i = b .before .before .before .before .before .before .before in
-    rw (b .beginning .ensures, b .before .both .ensures, b .before .before .before .hold .ensures) (first-asks _ _ _ (i .pre) (i .args .repeats))
+    let i = b .before .before .before .before in
+    rw (b .beginning .ensures, b .before .both .ensures, b .before .before .read .ensures) (first-asks _ _ _ (i .pre) (i .args .repeats))
 
 returns : tie.Need-returns
 unfolding firstPass
 returns c =
     let e = c .before .before in
     let b = e .before .before in
-    c .found .ensures ∙ ap found (e .test-listed .ensures .0 ∙ rw (b .beginning .ensures, b .before .both .ensures, b .before .before .before .hold .ensures))
+    c .found .ensures ∙ ap found (e .test-listed .ensures .0 ∙ rw (b .beginning .ensures, b .before .both .ensures, b .before .before .read .ensures))
 
 pub measured-first-pass-spec : {M : Type 1} → statement M
 measured-first-pass-spec =

@@ -1,19 +1,14 @@
 use borrow.Author.Needs.{needs}
-use Rattle.opening_tree_c.proofs.Calls.{refused-buffer, entry-buffer}
+use Rattle.parameters.specs.declared.ParameterSet.{ParameterSet}
+use Rattle.tree_entries.specs.Trees.{rootReply, rooted}
+use Rattle.opening_tree_c.proofs.Calls.{entry-buffer}
 use Rattle.opening_tree_c.proofs.tree.opening_tree_root.Statement.{statement}
 use Rattle.opening_tree_c.proofs.tree.opening_tree_root.Tie as tie
 
 returns : tie.Need-returns
-returns c = refused-buffer (c .before .before .hold .ensures) (c .if1 .taken) _ _ _
-
-abbrev held : tie.After-of-outcome → tie.Else1
-held c = c .before .before .before .before .before .before
-
-returns-2 : tie.Need-returns-2
-returns-2 c =
-    entry-buffer (held c .before .before .hold .ensures) (held c .if1 .left) _ _ _ (c .of-outcome .ensures)
-    (c .before .before .before .root .ensures)
+returns c =
+    let a = c .before .before .before .before .before .before .before .before .args in
+    entry-buffer (c .before .before .before .before .before .read .ensures) (λ (s : ParameterSet). rootReply s (a .store .now) (a .node .now)) (λ (s : ParameterSet). rooted s (a .store .now) (a .node .now)) (c .of-outcome .ensures) (c .before .before .before .root .ensures)
 
 pub opening-tree-root-spec : {M : Type 1} → statement M
-opening-tree-root-spec =
-    tie.close (tie.spec (λ c. search needs) returns (λ c. search needs) (λ c. search needs) (λ c. search needs) returns-2)
+opening-tree-root-spec = tie.close (tie.spec (λ c κs. search needs) (λ c κs. search needs) (λ c κs. search needs) (λ c. search needs) returns)
