@@ -22,9 +22,11 @@ handed in; 16 for a state. Every place first holds BEYOND (0 in validate and in 
 state); then the first COUNT places get the first COUNT drawn numbers of the
 generator with that seed (generator.py), each modulo p; then each of the RUNS
 runs writes its LENGTH values from its PLACE on. The list is the buffer's first
-COUNT places; a set that is handed in holds the whole buffer. No COUNT and no
-NODE is above its buffer's places (16 for a node); the program takes what is
-above as the number of places.
+COUNT places; a set that is handed in holds the whole buffer. Its kept values are
+those of the set, if validation accepts what it has in the used places, with
+BEYOND in the places after the t-th; if it does not, the set is refused for that,
+whatever they are. No COUNT and no NODE is above its buffer's places (16 for a
+node); the program takes what is above as the number of places.
 
 Each case knows the number that it is to be refused with, 0 for none; the
 reference's own checks compare that with what the entries answer.
@@ -38,7 +40,15 @@ from itertools import combinations, islice
 import published
 from field import P
 from generator import drawn_numbers
-from parameters import CONSTANT_PLACES, DIAGONAL_PLACES, ParameterSet, constant_count
+from parameters import (
+    CONSTANT_PLACES,
+    DIAGONAL_PLACES,
+    ParameterSet,
+    constant_count,
+    used_constants,
+    used_diagonal,
+    validate,
+)
 
 LIST_DIAGONAL_PLACES = 16
 LIST_CONSTANT_PLACES = 224
@@ -129,11 +139,15 @@ class Case:
 
     def handed(self) -> ParameterSet:
         """The set that an entry is handed, whether it is one or not."""
-        return ParameterSet(
-            *self.five(),
-            self.diagonal.buffer(DIAGONAL_PLACES, self.beyond),
-            self.constants.buffer(CONSTANT_PLACES, self.beyond),
-        )
+        diagonal = self.diagonal.buffer(DIAGONAL_PLACES, self.beyond)
+        constants = self.constants.buffer(CONSTANT_PLACES, self.beyond)
+        inverses = [self.beyond] * DIAGONAL_PLACES
+        s = ParameterSet(*self.five(), diagonal, constants, inverses, 0)
+        kind, accepted = validate(*self.five(), used_diagonal(s), used_constants(s))
+        if kind == "set":
+            s.inverses[: s.width] = accepted.inverses[: s.width]
+            s.total_inverse = accepted.total_inverse
+        return s
 
 
 # Cases without a fault.
@@ -302,9 +316,12 @@ def faults(case: Case) -> dict[int, list[Fault]]:
     return ways
 
 
-# The order in which faults are made: the numbers, then the words, a lower
-# refusal's over a higher one's, then the lengths.
-ORDER = [1, 2, 3, 4, 5, 9, 8, 7, 6, 12, 10]
+# The order in which faults are made: the numbers, then the words, an earlier
+# refusal's over a later one's, then the lengths.
+ORDER = [1, 2, 3, 4, 5, 18, 9, 8, 7, 6, 12, 10]
+
+# The order in which refusals are tested (Rules 8.1).
+TESTED = [1, 2, 3, 4, 5, 6, 7, 8, 9, 18, 10, 11, 12, 16, 17, 13, 14, 15]
 
 
 def altered(case: Case, *changes: Fault) -> Case:
@@ -316,10 +333,10 @@ def altered(case: Case, *changes: Fault) -> Case:
 
 
 def faulted(case: Case, *refusals_and_faults: tuple[int, Fault]) -> Case:
-    """The case with these faults; the lowest number is to refuse it."""
+    """The case with these faults; the first that is tested is to refuse it."""
     ordered = sorted(refusals_and_faults, key=lambda pair: ORDER.index(pair[0]))
     case = altered(case, *(fault for _, fault in ordered))
-    case.refusal = min(number for number, _ in refusals_and_faults)
+    case.refusal = min((number for number, _ in refusals_and_faults), key=TESTED.index)
     return case
 
 

@@ -23,6 +23,7 @@ import program
 import published
 import push_cases
 import push_vectors
+import set_checks
 import tree_cases
 import tree_vectors
 from field import P
@@ -30,10 +31,13 @@ from parameters import (
     ParameterSet,
     arity,
     constant_count,
+    five_numbers,
     internal_matrix,
     leaf_count,
     refusal_of_set,
     refusal_of_words,
+    used_constants,
+    used_diagonal,
     validate,
 )
 
@@ -330,9 +334,10 @@ def handed_sets() -> Iterator[Check]:
     yield "T", refusal_of_set(s), None
     s.diagonal[4:] = [0, P] * 4
     s.constants[8:] = [P] * 200
+    s.inverses[4:] = [0, P] * 4
     yield "places beyond", refusal_of_set(s), None
     yield "still permutes", poseidon2.permute(s, [1, 0, 0, 0]), ("words", [5, 4, 1, 1])
-    s.diagonal = [1, 0, 3, 4] + [0] * 8
+    s = accepted(4, 2, 1, 2, 0, [1, 0, 3, 4], T_CONSTANTS)
     yield "one zero, and zeros beyond", refusal_of_set(s), None
     changes = [
         (1, "width", 6),
@@ -344,6 +349,8 @@ def handed_sets() -> Iterator[Check]:
         (7, "constants", [P] + [0] * 207),
         (8, "diagonal", [0, 1, 1, 0] + [1] * 8),
         (9, "diagonal", [P - 4] * 12),
+        (18, "diagonal", [1, 2, 3, 5] + [0] * 8),
+        (18, "total_inverse", 0),
     ]
     for number, name, value in changes:
         s = set_t()
@@ -378,9 +385,10 @@ def inverse_permutations() -> Iterator[Check]:
             s = seeded_set(rng, width, 2, 1, full, partial)
             yield from undone_permutation(rng, f"t={width}, R_F={full}, R_P={partial}", s)
         for place in range(width):
-            s = seeded_set(rng, width, 2, 1, 2, 1 + place)
-            s.diagonal[:width] = [rng.randrange(1, P) for _ in range(width)]
-            s.diagonal[place] = 0
+            constants = seeded_words(rng, constant_count(width, 2, 1 + place))
+            diagonal = [rng.randrange(1, P) for _ in range(width)]
+            diagonal[place] = 0
+            s = accepted(width, 2, 1, 2, 1 + place, diagonal, constants)
             yield from undone_permutation(rng, f"t={width}, D_{place}=0", s)
 
 
@@ -653,10 +661,8 @@ def trees() -> Iterator[Check]:
 
 def run_on(s: ParameterSet, leaves: list[int]) -> str:
     """The root program on a set and leaves."""
-    numbers = [s.width, s.node_size, s.height, s.full_rounds, s.partial_rounds]
-    count = constant_count(s.width, s.full_rounds, s.partial_rounds)
-    numbers += s.diagonal[: s.width] + s.constants[:count] + leaves
-    return program.run(program_input(numbers)).decode()
+    numbers = five_numbers(s) + used_diagonal(s) + used_constants(s)
+    return program.run(program_input(numbers + leaves)).decode()
 
 
 def leaf_book() -> Iterator[Check]:
@@ -1058,6 +1064,7 @@ GROUPS = [
     ("repeated places", repeated_places),
     ("program refusals", program_refusals),
     *file_checks.GROUPS,
+    *set_checks.GROUPS,
 ]
 
 

@@ -158,19 +158,28 @@ def trees_with_a_zero() -> Iterator[Tree]:
 CallFault = tuple[str, int, int | None]
 
 
-def seeded_calls(
-    base: tuple[int, int, int], faults: list[CallFault], refusals: str, place: int = 0
-) -> Calls:
-    """Lists of the right lengths, but for the faults."""
-    t, l, h = base
-    leaves, store, siblings, _ = tree_sizes(t, l, h)
-    counts = {"leaves": leaves, "store": store, "siblings": siblings, "root": l, "leaf": l}
-    lists = {name: Listed(counts[name], i) for i, name in enumerate(HELD)}
+def held_lists(counts: dict[str, int], faults: list[CallFault]) -> dict[str, Listed]:
+    """Lists of these lengths, but for the faults."""
+    lists = {name: Listed(count, i) for i, (name, count) in enumerate(counts.items())}
     for name, by, at_place in faults:
         lists[name].count += by
         if at_place is not None:
             lists[name].write(at_place, P)
-    return Calls(seeded(t, l, h, 2, 0, 5), lists, place, [*map(int, refusals.split())])
+    return lists
+
+
+def held_counts(width: int, node_size: int, height: int) -> dict[str, int]:
+    """The right lengths of what a tree's entries are handed."""
+    leaves, store, siblings, _ = tree_sizes(width, node_size, height)
+    return dict(zip(HELD, (leaves, store, siblings, node_size, node_size)))
+
+
+def seeded_calls(
+    base: tuple[int, int, int], faults: list[CallFault], refusals: str, place: int = 0
+) -> Calls:
+    """A drawn set, and lists of the right lengths but for the faults."""
+    lists = held_lists(held_counts(*base), faults)
+    return Calls(seeded(*base, 2, 0, 5), lists, place, [*map(int, refusals.split())])
 
 
 def refused_lengths() -> Iterator[Calls]:

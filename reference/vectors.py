@@ -68,8 +68,8 @@ Its header line is `section sets`. The line of a case is one of
     T L H F R validate refused N
 
 where T L H F R are the five numbers that were handed in, and DIGEST is the
-digest of all that the answered set holds: its five numbers, its 12 places for
-D and its 208 for C.
+digest of what the answered set holds but its kept values: its five numbers, its
+12 places for D and its 208 for C.
 
 SECTION states
 
@@ -102,7 +102,7 @@ import poseidon2
 from cases import Case
 from field import P
 from generator import drawn_numbers
-from parameters import ParameterSet, validate
+from parameters import ParameterSet, five_numbers, validate
 
 ENTRIES = [
     ("sum", field.sum),
@@ -197,9 +197,8 @@ def digest(numbers: list[int]) -> int:
 
 
 def digest_of_set(s: ParameterSet) -> int:
-    """The digest of all that a set holds."""
-    numbers = [s.width, s.node_size, s.height, s.full_rounds, s.partial_rounds]
-    return digest(numbers + s.diagonal + s.constants)
+    """The digest of all that a set holds but its kept values."""
+    return digest(five_numbers(s) + s.diagonal + s.constants)
 
 
 def case_line(case: Case, *parts: str) -> str:

@@ -1,4 +1,4 @@
-// The entries of trees that write to a buffer, and what a verdict and a change say.
+// The entries of trees and of states that write to a buffer, and what a verdict and a change say.
 use crate::answers;
 use crate::lists;
 use crate::output;
@@ -17,6 +17,13 @@ pub const STORELESS_ROOT: u64 = 2;
 
 pub const OPEN: u64 = 3;
 
+// These two write to the buffer that they read.
+pub const PERMUTE: u64 = 4;
+
+pub const UNPERMUTE: u64 = 5;
+
+pub const COMPRESS: u64 = 6;
+
 fn entry_to(entry: u64, set: ParameterSet, from: &[u64], place: u64, to: &mut [u64]) -> Outcome {
     if entry == BUILD {
         return opening_tree::build(set, from, to);
@@ -26,6 +33,15 @@ fn entry_to(entry: u64, set: ParameterSet, from: &[u64], place: u64, to: &mut [u
     }
     if entry == STORELESS_ROOT {
         return opening_tree::storeless_root(set, from, to);
+    }
+    if entry == PERMUTE {
+        return opening_tree::permute(set, to);
+    }
+    if entry == UNPERMUTE {
+        return opening_tree::unpermute(set, to);
+    }
+    if entry == COMPRESS {
+        return opening_tree::compress(set, from, to);
     }
     opening_tree::open(set, from, place, to)
 }

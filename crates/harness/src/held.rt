@@ -9,14 +9,14 @@ use parameters::ParameterSet;
 use std::num::wrapping_sub_u64;
 
 // Drawn words in a buffer.
-struct Held {
-    words: [u64; 1024],
-    count: usize,
-    next: usize,
+pub struct Held {
+    pub words: [u64; 1024],
+    pub count: usize,
+    pub next: usize,
 }
 
 // A list's count, and the place that holds p, from 1 on: 0 for none.
-fn read_held(input: &[u8], at: usize, seed: u64) -> Held {
+pub fn read_held(input: &[u8], at: usize, seed: u64) -> Held {
     let count = input::number(input, at);
     let fault = input::number(input, count.next);
     let taken = lists::clamped(count.value, 1024);
@@ -35,7 +35,7 @@ fn read_held(input: &[u8], at: usize, seed: u64) -> Held {
 }
 
 // A call that writes to a buffer.
-fn call(entry: u64, set: ParameterSet, from: Held, place: u64, to: Held) {
+pub fn call(entry: u64, set: ParameterSet, from: Held, place: u64, to: Held) {
     let words = from.words;
     let before = to.words;
     entries::run(
@@ -83,20 +83,26 @@ fn print_answers(
     call(entries::OPEN, set, store, place, siblings);
     output::text(b" verify");
     call_verify(set, root, place, leaf, siblings);
-    output::end_line();
 }
 
-// Each entry on what the line holds. Where the next line begins.
-pub fn case(input: &[u8], at: usize) -> usize {
-    let numbers = handed::read_numbers(input, at);
-    let given = handed::read_set(input, numbers);
-    let leaves = read_held(input, given.next, 0);
+// Each entry with a set, on what the line holds. Where the number after it begins.
+pub fn calls(input: &[u8], at: usize, set: ParameterSet) -> usize {
+    let leaves = read_held(input, at, 0);
     let store = read_held(input, leaves.next, 1);
     let siblings = read_held(input, store.next, 2);
     let root = read_held(input, siblings.next, 3);
     let leaf = read_held(input, root.next, 4);
     let place = input::number(input, leaf.next);
-    handed::print_numbers(numbers);
-    print_answers(given.set, leaves, store, siblings, root, leaf, place.value);
+    print_answers(set, leaves, store, siblings, root, leaf, place.value);
     place.next
+}
+
+// The line's set, and each entry with it. Where the next line begins.
+pub fn case(input: &[u8], at: usize) -> usize {
+    let numbers = handed::read_numbers(input, at);
+    let given = handed::read_set(input, numbers);
+    handed::print_numbers(numbers);
+    let next = calls(input, given.next, given.set);
+    output::end_line();
+    next
 }

@@ -55,7 +55,8 @@ fn read_values(input: &[u8], at: usize, list: &mut [u64], place: u64, count: u64
     next
 }
 
-fn read_runs(input: &[u8], at: usize, list: &mut [u64]) -> usize {
+// Runs, each written from its place on.
+pub fn read_runs(input: &[u8], at: usize, list: &mut [u64]) -> usize {
     let runs = input::number(input, at);
     let mut next = runs.next;
     for _ in 0..runs.value {
