@@ -1,9 +1,10 @@
 /*
  * Sets to start from, for opening_tree.h: the Poseidon2 authors' instances over p = 2^64 - 2^32 + 1, at t = 8 and t = 12, as their
- * reference code has them, both with R_F = 8 and R_P = 22. Each macro stands for the nine arguments of a set, with the caller's node size
- * l and height h:
+ * reference code has them, both with R_F = 8 and R_P = 22. Each macro stands for the numbers and lists that opening_tree_validate takes,
+ * with the caller's node size l and height h:
  *
- *     opening_tree_build(OPENING_TREE_PUBLISHED_12(6, 16), leaves, leaves_count, store, store_count)
+ *     uint64_t set[OPENING_TREE_SET_SIZE];
+ *     opening_tree_validate(OPENING_TREE_PUBLISHED_12(6, 16), set)
  *
  * D is the diagonal less one, here as everywhere: word i after the internal layer is D_i times itself plus the sum of the state.
  *

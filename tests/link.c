@@ -14,15 +14,12 @@ static const uint64_t constants[8] = {0, 0, 0, 0, P - 505316, P - 410806, P - 12
 static const uint64_t singular[4] = {P - 4, P - 4, P - 4, P - 4};
 static const uint64_t two_zeros[4] = {0, 2, 0, 4};
 
-/* Small numbers, to be worked with by hand, and not safe; and the same with the heights 0, 3 and 8. */
-#define T 4, 2, 1, 2, 0, diagonal, 4, constants, 8
-#define LOW 4, 2, 0, 2, 0, diagonal, 4, constants, 8
-#define HIGH 4, 2, 3, 2, 0, diagonal, 4, constants, 8
-#define HIGHER 4, 2, 8, 2, 0, diagonal, 4, constants, 8
+/* Where the numbers of a set stand. */
+#define SIZE OPENING_TREE_SET_SIZE
+enum { WIDTH, NODE_SIZE, HEIGHT, FULL_ROUNDS, PARTIAL_ROUNDS, DIAGONAL, CONSTANTS = 17, INVERSES = 225, TOTAL_INVERSE = 237 };
 
-/* The set that a function here was handed as OPENING_TREE_SET; and with another D. */
-#define HANDED HANDED_WITH(diagonal)
-#define HANDED_WITH(list) width, node_size, height, full_rounds, partial_rounds, list, diagonal_count, constants, constants_count
+/* Small numbers, to be worked with by hand, and not safe; and the same with the heights 0, 3 and 8. */
+static uint64_t T[SIZE], LOW[SIZE], HIGH[SIZE], HIGHER[SIZE];
 
 static int passed, failed;
 
@@ -37,6 +34,21 @@ static void expect(const char *what, int holds) {
 
 static int same(const uint64_t *a, const uint64_t *b, size_t count) { return memcmp(a, b, count * sizeof *a) == 0; }
 
+static int all(const uint64_t *a, uint64_t number, size_t count) {
+    while (count > 0 && a[count - 1] == number) count--;
+    return count == 0;
+}
+
+static void fill(uint64_t *a, uint64_t number, size_t count) {
+    for (size_t i = 0; i < count; i++) a[i] = number;
+}
+
+/* The numbers of the set with one of them another. */
+static void alter(uint64_t *altered, const uint64_t *set, size_t place, uint64_t number) {
+    memcpy(altered, set, SIZE * sizeof *set);
+    altered[place] = number;
+}
+
 static void field(void) {
     uint64_t r = 99;
     expect("p is no word, and the result stays", opening_tree_sum(P, 0, &r) == 12 && r == 99);
@@ -49,16 +61,105 @@ static void field(void) {
     expect("seventh root", opening_tree_seventh_root(128, &r) == 0 && r == 2);
 }
 
+/* What is kept of D: each inverse makes 1 with its word, and is 0 for a 0 and beyond the words; that of 1 plus their sum makes 1 with it,
+   and is 0 where D has a 0. */
+static void kept_values(const uint64_t *set) {
+    uint64_t sum = 1, product = 0, zeros = 0;
+    for (uint64_t i = 0; i < set[WIDTH]; i++) {
+        const uint64_t word = set[DIAGONAL + i], inverse = set[INVERSES + i];
+        zeros += word == 0;
+        if (word == 0) expect("kept of a zero", inverse == 0);
+        else expect("kept of a word", opening_tree_product(word, inverse, &product) == 0 && product == 1);
+        expect("the sum of what is kept", opening_tree_sum(sum, inverse, &sum) == 0);
+    }
+    expect("nothing is kept beyond", all(set + INVERSES + set[WIDTH], 0, 12 - set[WIDTH]));
+    if (zeros > 0) expect("kept of a sum, with a zero", set[TOTAL_INVERSE] == 0);
+    else expect("kept of a sum", opening_tree_product(sum, set[TOTAL_INVERSE], &product) == 0 && product == 1);
+}
+
+/* Makes a set in an array of any numbers: every number and list in its places, 0 beyond them, and what is kept. */
+static void make(uint64_t *set, uint64_t width, uint64_t node_size, uint64_t height, uint64_t full_rounds, uint64_t partial_rounds,
+                 const uint64_t *words, size_t words_count, const uint64_t *list, size_t list_count) {
+    const uint64_t numbers[5] = {width, node_size, height, full_rounds, partial_rounds};
+    fill(set, 9, SIZE);
+    expect("validate", opening_tree_validate(width, node_size, height, full_rounds, partial_rounds, words, words_count, list, list_count,
+                                             set) == 0);
+    expect("its numbers", same(set, numbers, 5));
+    expect("its D", same(set + DIAGONAL, words, words_count) && all(set + DIAGONAL + words_count, 0, 12 - words_count));
+    expect("its C", same(set + CONSTANTS, list, list_count) && all(set + CONSTANTS + list_count, 0, 208 - list_count));
+    kept_values(set);
+}
+
+/* Refused with this number, and the array holds what it held. */
+static int refuses(uint8_t number, uint64_t width, uint64_t node_size, uint64_t height, uint64_t full_rounds, uint64_t partial_rounds,
+                   const uint64_t *words, size_t words_count, const uint64_t *list, size_t list_count) {
+    uint64_t set[SIZE];
+    fill(set, 9, SIZE);
+    return opening_tree_validate(width, node_size, height, full_rounds, partial_rounds, words, words_count, list, list_count, set) ==
+               number && all(set, 9, SIZE);
+}
+
+/* Sets with one zero in D. Of (1, 0, 0, 0) the internal layer finds (1, 410806, 127289, 94519), whose sum is 632615, and under V leaves
+   (632615, 1043421, 887193, 916172). The last round's constants make (1, 0, 0, 0) of that, and M_E (5, 4, 1, 1). So they do under
+   CANCELLING, where 1 plus the inverses of the words other than 0 is 0, of (632615, -599803, 250748, 349058). */
+static uint64_t V[SIZE], CANCELLING[SIZE];
+static const uint64_t one_zero[4] = {0, 1, 2, 3}, cancelling[4] = {0, P - 3, P - 3, P - 3};
+static const uint64_t one_zero_constants[9] = {0, 0, 0, 0, P - 505316, P - 632614, P - 1043421, P - 887193, P - 916172};
+static const uint64_t cancelling_constants[9] = {0, 0, 0, 0, P - 505316, P - 632614, 599803, P - 250748, P - 349058};
+
+/* T, whose D is not used where there are no partial rounds, with words whose inverses add up to 0: 1 is kept of 1 plus their sum. */
+static uint64_t BALANCED[SIZE];
+static const uint64_t balanced[4] = {1, P - 1, 2, P - 2};
+
+/* The inverses of 2, 3, 4 and -3 are (p + 1) / 2, (2p + 1) / 3, (3p + 1) / 4 and (p - 1) / 3. For T 1 plus the inverses is 37 / 12. */
+static void sets(void) {
+    const uint64_t half = UINT64_C(9223372034707292161), third = UINT64_C(12297829379609722881), quarter = UINT64_C(13835058052060938241);
+    const uint64_t of_t[4] = {1, half, third, quarter}, of_v[4] = {0, 1, half, third}, of_balanced[4] = {1, P - 1, half, P - half};
+    const uint64_t of_cancelling[4] = {0, (P - 1) / 3, (P - 1) / 3, (P - 1) / 3};
+    uint64_t product = 0;
+    make(T, 4, 2, 1, 2, 0, diagonal, 4, constants, 8);
+    make(LOW, 4, 2, 0, 2, 0, diagonal, 4, constants, 8);
+    make(HIGH, 4, 2, 3, 2, 0, diagonal, 4, constants, 8);
+    make(HIGHER, 4, 2, 8, 2, 0, diagonal, 4, constants, 8);
+    make(V, 4, 2, 1, 2, 1, one_zero, 4, one_zero_constants, 9);
+    make(CANCELLING, 4, 2, 1, 2, 1, cancelling, 4, cancelling_constants, 9);
+    make(BALANCED, 4, 2, 1, 2, 0, balanced, 4, constants, 8);
+    expect("kept of T's D", same(T + INVERSES, of_t, 4));
+    expect("kept of T's sum", opening_tree_product(T[TOTAL_INVERSE], 37, &product) == 0 && product == 12);
+    expect("kept of V", same(V + INVERSES, of_v, 4) && V[TOTAL_INVERSE] == 0);
+    expect("kept of CANCELLING", same(CANCELLING + INVERSES, of_cancelling, 4) && CANCELLING[TOTAL_INVERSE] == 0);
+    expect("kept of BALANCED", same(BALANCED + INVERSES, of_balanced, 4) && BALANCED[TOTAL_INVERSE] == 1);
+}
+
+/* Each refusal of validation, where those after it apply too. */
+static void no_sets(void) {
+    const uint64_t no_word[4] = {1, 0, 0, P};
+    expect("t = 5", refuses(1, 5, 0, 33, 3, 65, singular, 3, constants, 7));
+    expect("l = 4", refuses(2, 4, 4, 33, 3, 65, singular, 3, constants, 7));
+    expect("R_F = 3", refuses(3, 4, 2, 33, 3, 65, singular, 3, constants, 7));
+    expect("R_P = 65", refuses(4, 4, 2, 33, 2, 65, singular, 3, constants, 7));
+    expect("h = 33", refuses(5, 4, 2, 33, 2, 0, singular, 3, constants, 7));
+    expect("three words of D", refuses(6, 4, 2, 1, 2, 0, no_word, 3, constants, 8));
+    expect("seven words of C", refuses(6, 4, 2, 1, 2, 0, no_word, 4, constants, 7));
+    expect("no D", refuses(6, 4, 2, 1, 2, 0, NULL, 0, constants, 8));
+    expect("no C", refuses(6, 4, 2, 1, 2, 0, diagonal, 4, NULL, 0));
+    expect("no lists", refuses(6, 4, 2, 1, 2, 0, NULL, 0, NULL, 0));
+    expect("p in D", refuses(7, 4, 2, 1, 2, 0, no_word, 4, constants, 8));
+    expect("two zeros in D", refuses(8, 4, 2, 1, 2, 0, two_zeros, 4, constants, 8));
+    expect("singular", refuses(9, 4, 2, 1, 2, 0, singular, 4, constants, 8));
+    expect("l = 5", refuses(OPENING_TREE_BAD_NODE_SIZE, OPENING_TREE_PUBLISHED_12(5, 3)));
+    expect("h = 33, published", refuses(OPENING_TREE_BAD_HEIGHT, OPENING_TREE_PUBLISHED_8(4, 33)));
+    expect("12^9 leaves", refuses(OPENING_TREE_BAD_HEIGHT, OPENING_TREE_PUBLISHED_12(1, 9)));
+}
+
 static void states(void) {
     const uint64_t first[4] = {1, 0, 0, 0}, permuted[4] = {5, 4, 1, 1}, compressed[2] = {6, 4};
-    uint64_t state[4] = {1, 0, 0, 0}, node[2] = {9, 9};
-    expect("validate", opening_tree_validate(T) == 0);
-    expect("refusal 6", opening_tree_validate(4, 2, 1, 2, 0, diagonal, 4, constants, 7) == 6);
-    expect("refusal 9", opening_tree_validate(4, 2, 1, 2, 0, singular, 4, constants, 8) == 9);
+    uint64_t state[4] = {1, 0, 0, 0}, node[2] = {9, 9}, wide[SIZE];
     expect("permute", opening_tree_permute(T, state, 4) == 0 && same(state, permuted, 4));
     expect("unpermute", opening_tree_unpermute(T, state, 4) == 0 && same(state, first, 4));
     expect("a state of three numbers", opening_tree_permute(T, state, 3) == 10 && same(state, first, 4));
-    expect("a set that is refused", opening_tree_permute(5, 2, 1, 2, 0, diagonal, 4, constants, 8, state, 4) == 1 && same(state, first, 4));
+    alter(wide, T, WIDTH, 5);
+    expect("a set that is refused", opening_tree_permute(wide, state, 4) == 1 && same(state, first, 4));
     expect("compress", opening_tree_compress(T, first, 4, node, 2) == 0 && same(node, compressed, 2));
 }
 
@@ -79,146 +180,305 @@ static const uint64_t known_12[1][2][12] = {
 };
 
 /* The state permutes as published, and back, and compresses to the first words of its sum with that; the sums stay below p. */
-static void known(OPENING_TREE_SET, const uint64_t *given, const uint64_t *permuted) {
+static void known(const uint64_t *set, const uint64_t *given, const uint64_t *permuted) {
+    const size_t width = set[WIDTH], node_size = set[NODE_SIZE];
     uint64_t state[12], node[12], sum[12];
     memcpy(state, given, width * sizeof *state);
     for (size_t i = 0; i < node_size; i++) sum[i] = given[i] + permuted[i];
-    expect("permute, published", opening_tree_permute(HANDED, state, width) == 0 && same(state, permuted, width));
-    expect("unpermute, published", opening_tree_unpermute(HANDED, state, width) == 0 && same(state, given, width));
-    expect("compress, published", opening_tree_compress(HANDED, given, width, node, node_size) == 0 && same(node, sum, node_size));
+    expect("permute, published", opening_tree_permute(set, state, width) == 0 && same(state, permuted, width));
+    expect("unpermute, published", opening_tree_unpermute(set, state, width) == 0 && same(state, given, width));
+    expect("compress, published", opening_tree_compress(set, given, width, node, node_size) == 0 && same(node, sum, node_size));
 }
 
 static void published(void) {
-    known(OPENING_TREE_PUBLISHED_8(4, 3), known_8[0][0], known_8[0][1]);
-    known(OPENING_TREE_PUBLISHED_8(2, 1), known_8[1][0], known_8[1][1]);
-    known(OPENING_TREE_PUBLISHED_12(6, 3), known_12[0][0], known_12[0][1]);
-    expect("l = 5", opening_tree_validate(OPENING_TREE_PUBLISHED_12(5, 3)) == OPENING_TREE_BAD_NODE_SIZE);
-    expect("h = 33", opening_tree_validate(OPENING_TREE_PUBLISHED_8(4, 33)) == OPENING_TREE_BAD_HEIGHT);
+    uint64_t set[SIZE];
+    make(set, OPENING_TREE_PUBLISHED_8(4, 3));
+    known(set, known_8[0][0], known_8[0][1]);
+    make(set, OPENING_TREE_PUBLISHED_8(2, 1));
+    known(set, known_8[1][0], known_8[1][1]);
+    make(set, OPENING_TREE_PUBLISHED_12(6, 3));
+    known(set, known_12[0][0], known_12[0][1]);
 }
 
-static int has_sizes(OPENING_TREE_SET, uint64_t leaves, uint64_t store, uint64_t opening) {
+static int has_sizes(const uint64_t *set, uint64_t leaves, uint64_t store, uint64_t opening) {
     const uint64_t wanted[3] = {leaves, store, opening};
     uint64_t given[3] = {97, 98, 99};
-    return opening_tree_sizes(HANDED, &given[0], &given[1], &given[2]) == 0 && same(given, wanted, 3);
-}
-
-/* Refused with this number, and all three hold what they held. */
-static int refuses_sizes(OPENING_TREE_SET, uint8_t number) {
-    const uint64_t kept[3] = {97, 98, 99};
-    uint64_t given[3] = {97, 98, 99};
-    return opening_tree_sizes(HANDED, &given[0], &given[1], &given[2]) == number && same(given, kept, 3);
+    return opening_tree_sizes(set, &given[0], &given[1], &given[2]) == 0 && same(given, wanted, 3);
 }
 
 static void sizes(void) {
-    const uint64_t no_word[4] = {1, 0, 0, P};
+    uint64_t set[SIZE];
     expect("sizes, T", has_sizes(T, 4, 6, 2));
     expect("sizes, h = 0", has_sizes(LOW, 2, 2, 0));
-    expect("sizes, k = 3", has_sizes(OPENING_TREE_PUBLISHED_12(4, 2), 9 * 4, (9 + 3 + 1) * 4, 2 * 2 * 4));
-    expect("sizes, k = 4", has_sizes(OPENING_TREE_PUBLISHED_8(2, 3), 64 * 2, (64 + 16 + 4 + 1) * 2, 3 * 3 * 2));
-    expect("sizes, k = 12", has_sizes(OPENING_TREE_PUBLISHED_12(1, 8), 429981696, 469070941, 8 * 11));
-    expect("sizes, the greatest", has_sizes(OPENING_TREE_PUBLISHED_12(6, 32), UINT64_C(25769803776), UINT64_C(51539607546), 32 * 6));
-    expect("no sizes, t = 5", refuses_sizes(5, 0, 33, 3, 65, singular, 3, constants, 7, 1));
-    expect("no sizes, l = 4", refuses_sizes(4, 4, 33, 3, 65, singular, 3, constants, 7, 2));
-    expect("no sizes, R_F = 3", refuses_sizes(4, 2, 33, 3, 65, singular, 3, constants, 7, 3));
-    expect("no sizes, R_P = 65", refuses_sizes(4, 2, 33, 2, 65, singular, 3, constants, 7, 4));
-    expect("no sizes, h = 33", refuses_sizes(4, 2, 33, 2, 0, singular, 3, constants, 7, 5));
-    expect("no sizes, 12^9 leaves", refuses_sizes(OPENING_TREE_PUBLISHED_12(1, 9), 5));
-    expect("no sizes, three words of D", refuses_sizes(4, 2, 1, 2, 0, no_word, 3, constants, 8, 6));
-    expect("no sizes, seven words of C", refuses_sizes(4, 2, 1, 2, 0, no_word, 4, constants, 7, 6));
-    expect("no sizes, p in D", refuses_sizes(4, 2, 1, 2, 0, no_word, 4, constants, 8, 7));
-    expect("no sizes, two zeros in D", refuses_sizes(4, 2, 1, 2, 0, two_zeros, 4, constants, 8, 8));
-    expect("no sizes, singular", refuses_sizes(4, 2, 1, 2, 0, singular, 4, constants, 8, 9));
+    make(set, OPENING_TREE_PUBLISHED_12(4, 2));
+    expect("sizes, k = 3", has_sizes(set, 9 * 4, (9 + 3 + 1) * 4, 2 * 2 * 4));
+    make(set, OPENING_TREE_PUBLISHED_8(2, 3));
+    expect("sizes, k = 4", has_sizes(set, 64 * 2, (64 + 16 + 4 + 1) * 2, 3 * 3 * 2));
+    make(set, OPENING_TREE_PUBLISHED_12(1, 8));
+    expect("sizes, k = 12", has_sizes(set, 429981696, 469070941, 8 * 11));
+    make(set, OPENING_TREE_PUBLISHED_12(6, 32));
+    expect("sizes, the greatest", has_sizes(set, UINT64_C(25769803776), UINT64_C(51539607546), 32 * 6));
 }
 
-/* Sets with one zero in D. Of (1, 0, 0, 0) the internal layer finds (1, 410806, 127289, 94519), whose sum is 632615, and under V leaves
-   (632615, 1043421, 887193, 916172). The last round's constants make (1, 0, 0, 0) of that, and M_E (5, 4, 1, 1). So they do under
-   CANCELLING, where 1 plus the inverses of the words other than 0 is 0, of (632615, -599803, 250748, 349058). */
-#define V 4, 2, 1, 2, 1, one_zero, 4, one_zero_constants, 9
-#define CANCELLING 4, 2, 1, 2, 1, cancelling, 4, cancelling_constants, 9
-static const uint64_t one_zero[4] = {0, 1, 2, 3}, cancelling[4] = {0, P - 3, P - 3, P - 3};
-static const uint64_t one_zero_constants[9] = {0, 0, 0, 0, P - 505316, P - 632614, P - 1043421, P - 887193, P - 916172};
-static const uint64_t cancelling_constants[9] = {0, 0, 0, 0, P - 505316, P - 632614, 599803, P - 250748, P - 349058};
-
-/* The state (1, 0, 0, 0) and back, and the tree of (1, 0) and (0, 0); then a state there and back, and the other way round. */
-static void under_a_zero(OPENING_TREE_SET) {
+/* A set under which (1, 0, 0, 0) permutes to (5, 4, 1, 1), such as T and V: this state and back, and the tree of (1, 0) and (0, 0); then a
+   state there and back, and the other way round. */
+static void works(const uint64_t *set) {
     const uint64_t first[4] = {1, 0, 0, 0}, permuted[4] = {5, 4, 1, 1}, built[6] = {1, 0, 0, 0, 6, 4}, other[4] = {P - 1, 7, 0, 1};
     uint64_t state[4] = {1, 0, 0, 0}, moved[4] = {P - 1, 7, 0, 1}, node[2] = {9, 9}, store[6] = {0};
-    expect("one zero: validate", opening_tree_validate(HANDED) == 0);
-    expect("one zero: sizes", has_sizes(HANDED, 4, 6, 2));
-    expect("one zero: permute", opening_tree_permute(HANDED, state, 4) == 0 && same(state, permuted, 4));
-    expect("one zero: unpermute", opening_tree_unpermute(HANDED, state, 4) == 0 && same(state, first, 4));
-    expect("one zero: compress", opening_tree_compress(HANDED, first, 4, node, 2) == 0 && same(node, built + 4, 2));
-    expect("one zero: build", opening_tree_build(HANDED, first, 4, store, 6) == 0 && same(store, built, 6));
-    expect("one zero: verify", opening_tree_verify(HANDED, built + 4, 2, 1, first + 2, 2, first, 2) == OPENING_TREE_ACCEPTED);
-    expect("one zero: there", opening_tree_permute(HANDED, moved, 4) == 0 && !same(moved, other, 4));
-    expect("one zero: and back", opening_tree_unpermute(HANDED, moved, 4) == 0 && same(moved, other, 4));
-    expect("one zero: back", opening_tree_unpermute(HANDED, moved, 4) == 0 && !same(moved, other, 4));
-    expect("one zero: and there", opening_tree_permute(HANDED, moved, 4) == 0 && same(moved, other, 4));
+    expect("works: sizes", has_sizes(set, 4, 6, 2));
+    expect("works: permute", opening_tree_permute(set, state, 4) == 0 && same(state, permuted, 4));
+    expect("works: unpermute", opening_tree_unpermute(set, state, 4) == 0 && same(state, first, 4));
+    expect("works: compress", opening_tree_compress(set, first, 4, node, 2) == 0 && same(node, built + 4, 2));
+    expect("works: build", opening_tree_build(set, first, 4, store, 6) == 0 && same(store, built, 6));
+    expect("works: verify", opening_tree_verify(set, built + 4, 2, 1, first + 2, 2, first, 2) == OPENING_TREE_ACCEPTED);
+    expect("works: there", opening_tree_permute(set, moved, 4) == 0 && !same(moved, other, 4));
+    expect("works: and back", opening_tree_unpermute(set, moved, 4) == 0 && same(moved, other, 4));
+    expect("works: back", opening_tree_unpermute(set, moved, 4) == 0 && !same(moved, other, 4));
+    expect("works: and there", opening_tree_permute(set, moved, 4) == 0 && same(moved, other, 4));
 }
 
-/* A zero at each place of the published sets' diagonals, which then permute otherwise, and back. Two at any two places are refused. */
-static void zeros_at_places(OPENING_TREE_SET) {
-    uint64_t given[12], state[12], other[12], changed[12];
-    for (uint64_t i = 0; i < width; i++) given[i] = other[i] = P - 1 - i;
-    expect("no zero", opening_tree_permute(HANDED, other, width) == 0);
-    for (uint64_t i = 0; i < width; i++) {
-        memcpy(changed, diagonal, width * sizeof *changed);
-        memcpy(state, given, width * sizeof *state);
-        changed[i] = 0;
-        expect("a zero: permute", opening_tree_permute(HANDED_WITH(changed), state, width) == 0 && !same(state, other, width));
-        expect("a zero: unpermute", opening_tree_unpermute(HANDED_WITH(changed), state, width) == 0 && same(state, given, width));
-        for (uint64_t j = 0; j < i; j++) {
-            changed[j] = 0;
-            expect("two zeros: validate", opening_tree_validate(HANDED_WITH(changed)) == OPENING_TREE_ZERO_IN_DIAGONAL);
-            expect("two zeros: kept", opening_tree_unpermute(HANDED_WITH(changed), state, width) == 8 && same(state, given, width));
-            changed[j] = diagonal[j];
+/* A set that every function refuses with this number, with arguments that fit T, and with others that nothing fits; nothing is written. */
+static void refused(const char *what, const uint64_t *set, uint8_t number) {
+    const uint64_t given[6] = {1, 0, 0, 0, 6, 4};
+    const opening_tree_record record = {1, {5, 6, 0, 0, 0, 0}};
+    const uint8_t contents[1] = {7};
+    uint64_t a[6], b[6], c[SIZE], made = 9, level = 9, three[3] = {9, 9, 9};
+    fill(a, 9, 6);
+    fill(b, 9, 6);
+    fill(c, 9, SIZE);
+    const uint8_t answers[] = {
+        opening_tree_exchange_diagonal(set, diagonal, 4, c),
+        opening_tree_exchange_diagonal(set, NULL, 0, c),
+        opening_tree_exchange_height(set, 1, c),
+        opening_tree_exchange_height(set, 33, c),
+        opening_tree_permute(set, a, 4),
+        opening_tree_permute(set, NULL, 0),
+        opening_tree_unpermute(set, a, 4),
+        opening_tree_unpermute(set, NULL, 0),
+        opening_tree_compress(set, given, 4, a, 2),
+        opening_tree_compress(set, NULL, 0, NULL, 0),
+        opening_tree_sizes(set, &three[0], &three[1], &three[2]),
+        opening_tree_build(set, given, 4, a, 6),
+        opening_tree_build(set, NULL, 0, NULL, 0),
+        opening_tree_root(set, given, 6, a, 2),
+        opening_tree_root(set, NULL, 0, NULL, 0),
+        opening_tree_storeless_root(set, given, 4, a, 2),
+        opening_tree_storeless_root(set, NULL, 0, NULL, 0),
+        opening_tree_open(set, given, 6, 1, a, 2),
+        opening_tree_open(set, NULL, 0, 2, NULL, 0),
+        opening_tree_verify(set, given + 4, 2, 1, given + 2, 2, given, 2),
+        opening_tree_verify(set, NULL, 0, 2, NULL, 0, NULL, 0),
+        opening_tree_read_level(set, given, 2, 0, a + 2, 2),
+        opening_tree_read_level(set, NULL, 0, 1, NULL, 0),
+        opening_tree_replace(set, a, 6, 1, given, 2, &made),
+        opening_tree_replace(set, NULL, 0, 2, NULL, 0, &made),
+        opening_tree_push(set, a, 6, &record, 1, &made),
+        opening_tree_push(set, NULL, 0, &record, SIZE_MAX, &made),
+        opening_tree_push_numbers(set, a, 6, &record.place, 7, &made),
+        opening_tree_push_numbers(set, NULL, 0, &record.place, 6, &made),
+        opening_tree_extract(set, given + 4, 2, 1, given + 2, 2, given, 2, given + 2, 2, given, 2, a, 4, b, 4, &level),
+        opening_tree_extract(set, NULL, 0, 2, NULL, 0, NULL, 0, NULL, 0, NULL, 0, NULL, 0, NULL, 0, &level),
+        opening_tree_leaf_of_file(set, contents, 1, a, 2),
+        opening_tree_leaf_of_file(set, contents, SIZE_MAX, NULL, 0),
+    };
+    for (size_t i = 0; i < sizeof answers; i++) {
+        if (answers[i] != number) printf("answer %zu is %d and not %d: ", i, answers[i], number);
+        expect(what, answers[i] == number);
+    }
+    expect(what, all(a, 9, 6) && all(b, 9, 6) && all(c, 9, SIZE) && made == 9 && level == 9 && all(three, 9, 3));
+}
+
+/* Each refusal of a set, where those after it apply too; the kept values are wrong until the last. */
+static void refused_sets(void) {
+    const uint64_t no_word[4] = {1, 0, 0, P}, others_cancel[4] = {0, P - 2, P - 2, 0};
+    uint64_t set[SIZE];
+    fill(set, P, SIZE);
+    refused("t = p", set, 1);
+    set[WIDTH] = 4;
+    refused("l = p", set, 2);
+    set[NODE_SIZE] = 2;
+    refused("R_F = p", set, 3);
+    set[FULL_ROUNDS] = 2;
+    refused("R_P = p", set, 4);
+    set[PARTIAL_ROUNDS] = 0;
+    refused("h = p", set, 5);
+    set[HEIGHT] = 33;
+    refused("h = 33", set, 5);
+    set[HEIGHT] = 1;
+    refused("p in D and C", set, 7);
+    memcpy(set + CONSTANTS, constants, sizeof constants);
+    memcpy(set + DIAGONAL, no_word, sizeof no_word);
+    refused("p in D", set, 7);
+    memcpy(set + DIAGONAL, two_zeros, sizeof two_zeros);
+    refused("two zeros in D", set, 8);
+    memcpy(set + DIAGONAL, others_cancel, sizeof others_cancel);
+    refused("two zeros in D, and the others cancel", set, 8);
+    memcpy(set + DIAGONAL, singular, sizeof singular);
+    refused("singular, and the kept values are no words", set, 9);
+    memcpy(set + INVERSES, T + INVERSES, 13 * sizeof *T);
+    refused("singular, and the kept values of another D", set, 9);
+    memcpy(set + DIAGONAL, diagonal, sizeof diagonal);
+    set[CONSTANTS + 7] = P;
+    refused("p in C", set, 7);
+    set[CONSTANTS + 7] = constants[7];
+    works(set);
+}
+
+/* Each kept value changed in turn: one more, one less, p more, and 0 or another than 0. Beyond the words of D they may be anything. */
+static void changed_values(const uint64_t *set) {
+    uint64_t changed[SIZE];
+    for (size_t i = INVERSES; i < SIZE; i++) {
+        const uint64_t value = set[i], others[4] = {value + 1, value - 1, value + P, value == 0 ? P - 1 : 0};
+        for (int j = 0; j < 4; j++) {
+            alter(changed, set, i, others[j]);
+            if (i < INVERSES + set[WIDTH] || i == TOTAL_INVERSE) refused("a kept value is another", changed, OPENING_TREE_BAD_KEPT_VALUES);
+            else works(changed);
         }
     }
 }
 
-/* Two zeros are refused by every function, and every buffer holds what it held. */
-#define TWO_ZEROS 4, 2, 1, 2, 0, two_zeros, 4, constants, 8
+/* Whatever the places hold that a set of four words does not use, it does the same. */
+static void junk_beyond(uint64_t *altered, const uint64_t *set) {
+    const size_t used = CONSTANTS + 4 * set[FULL_ROUNDS] + set[PARTIAL_ROUNDS];
+    memcpy(altered, set, SIZE * sizeof *set);
+    fill(altered + DIAGONAL + 4, P, 8);
+    fill(altered + used, UINT64_MAX, INVERSES - used);
+    fill(altered + INVERSES + 4, 1, 8);
+}
 
-static void refuses_two_zeros(void) {
-    const uint64_t given[6] = {1, 0, 0, 0, 6, 4}, kept[6] = {9, 9, 9, 9, 9, 9}, others_cancel[4] = {0, P - 2, P - 2, 0};
-    const opening_tree_record record = {1, {5, 6, 0, 0, 0, 0}};
-    const uint8_t contents[1] = {7};
-    uint64_t a[6] = {9, 9, 9, 9, 9, 9}, b[6] = {9, 9, 9, 9, 9, 9}, made = 99, level = 99;
-    expect("two zeros: validate", opening_tree_validate(TWO_ZEROS) == 8);
-    expect("two zeros, and the others cancel", opening_tree_validate(4, 2, 1, 2, 0, others_cancel, 4, constants, 8) == 8);
-    expect("two zeros: sizes", refuses_sizes(TWO_ZEROS, 8));
-    expect("two zeros: permute", opening_tree_permute(TWO_ZEROS, a, 4) == 8);
-    expect("two zeros: unpermute", opening_tree_unpermute(TWO_ZEROS, a, 4) == 8);
-    expect("two zeros: compress", opening_tree_compress(TWO_ZEROS, given, 4, a, 2) == 8);
-    expect("two zeros: build", opening_tree_build(TWO_ZEROS, given, 4, a, 6) == 8);
-    expect("two zeros: root", opening_tree_root(TWO_ZEROS, given, 6, a, 2) == 8);
-    expect("two zeros: storeless root", opening_tree_storeless_root(TWO_ZEROS, given, 4, a, 2) == 8);
-    expect("two zeros: open", opening_tree_open(TWO_ZEROS, given, 6, 1, a, 2) == 8);
-    expect("two zeros: verify", opening_tree_verify(TWO_ZEROS, given + 4, 2, 1, given + 2, 2, given, 2) == 8);
-    expect("two zeros: read level", opening_tree_read_level(TWO_ZEROS, given, 2, 0, a + 2, 2) == 8);
-    expect("two zeros: replace", opening_tree_replace(TWO_ZEROS, a, 6, 1, given, 2, &made) == 8);
-    expect("two zeros: push", opening_tree_push(TWO_ZEROS, a, 6, &record, 1, &made) == 8);
-    expect("two zeros: push, numbers", opening_tree_push_numbers(TWO_ZEROS, a, 6, &record.place, 7, &made) == 8);
-    expect("two zeros: extract", opening_tree_extract(TWO_ZEROS, given + 4, 2, 1, given + 2, 2, given, 2, given + 2, 2, given, 2, a, 4, b,
-                                                      4, &level) == 8);
-    expect("two zeros: leaf of a file", opening_tree_leaf_of_file(TWO_ZEROS, contents, 1, a, 2) == 8);
-    expect("two zeros: nothing is written", same(a, kept, 6) && same(b, kept, 6) && made == 99 && level == 99);
+static void judged(void) {
+    const uint64_t *const sets[4] = {T, BALANCED, V, CANCELLING};
+    uint64_t set[SIZE], altered[SIZE];
+    for (int i = 0; i < 4; i++) {
+        works(sets[i]);
+        changed_values(sets[i]);
+        junk_beyond(altered, sets[i]);
+        works(altered);
+    }
+    /* The values of one D with another, of which one word is 0 or none. */
+    memcpy(altered, T, sizeof T);
+    memcpy(altered + INVERSES, BALANCED + INVERSES, 13 * sizeof *T);
+    refused("the values of another D", altered, 18);
+    memcpy(altered, V, sizeof V);
+    memcpy(altered + INVERSES, CANCELLING + INVERSES, 13 * sizeof *V);
+    refused("the values of another D, with a zero", altered, 18);
+    alter(altered, V, DIAGONAL, 5);
+    refused("a word in the place of a zero", altered, 18);
+    alter(altered, T, DIAGONAL, 0);
+    refused("a zero in the place of a word", altered, 18);
+    make(set, OPENING_TREE_PUBLISHED_12(2, 1));
+    for (size_t i = INVERSES; i < SIZE; i++) {
+        alter(altered, set, i, set[i] ^ 1);
+        refused("a kept value is another, published", altered, 18);
+    }
+}
+
+/* The set with this D, by an exchange: what validation writes for it, and for its other numbers. */
+static int exchanges(const uint64_t *set, const uint64_t *words, uint64_t *exchanged) {
+    const size_t width = set[WIDTH], list_count = width * set[FULL_ROUNDS] + set[PARTIAL_ROUNDS];
+    uint64_t wanted[SIZE];
+    make(wanted, width, set[NODE_SIZE], set[HEIGHT], set[FULL_ROUNDS], set[PARTIAL_ROUNDS], words, width, set + CONSTANTS, list_count);
+    fill(exchanged, 9, SIZE);
+    return opening_tree_exchange_diagonal(set, words, width, exchanged) == 0 && same(exchanged, wanted, SIZE);
+}
+
+/* Refused with this number, and the array for the exchanged set holds what it held. */
+static int no_exchange(uint8_t number, const uint64_t *set, const uint64_t *words, size_t words_count) {
+    uint64_t exchanged[SIZE];
+    fill(exchanged, 9, SIZE);
+    return opening_tree_exchange_diagonal(set, words, words_count, exchanged) == number && all(exchanged, 9, SIZE);
+}
+
+static void exchanged_diagonals(void) {
+    const uint64_t words[13] = {P - 1, 2, P, 0, 5, 6, 7, 8, 9, 10, 11, 12, 13};
+    uint64_t with[SIZE], back[SIZE], altered[SIZE], set[SIZE];
+    expect("another D", exchanges(T, balanced, with) && same(with, BALANCED, SIZE));
+    expect("another D, and back", exchanges(with, diagonal, back) && same(back, T, SIZE));
+    expect("a D with a zero", exchanges(T, one_zero, with) && exchanges(with, diagonal, back) && same(back, T, SIZE));
+    expect("the others cancel", exchanges(V, cancelling, with) && exchanges(with, one_zero, back) && same(back, V, SIZE));
+    expect("the same D", exchanges(T, diagonal, back) && same(back, T, SIZE));
+    junk_beyond(altered, T);
+    fill(with, 9, SIZE);
+    expect("beyond its words", opening_tree_exchange_diagonal(altered, balanced, 4, with) == 0 && same(with, BALANCED, SIZE));
+    works(with);
+    expect("three words", no_exchange(OPENING_TREE_BAD_LIST_LENGTH, T, words, 3));
+    expect("five words", no_exchange(6, T, words, 5));
+    expect("no words", no_exchange(6, T, NULL, 0));
+    expect("twelve words", no_exchange(6, T, words, 12));
+    expect("p in D", no_exchange(7, T, words, 4));
+    expect("two zeros", no_exchange(8, T, two_zeros, 4));
+    expect("singular", no_exchange(9, T, singular, 4));
+    make(set, OPENING_TREE_PUBLISHED_12(4, 1));
+    expect("eight words of twelve", no_exchange(6, set, words, 8));
+    expect("thirteen words of twelve", no_exchange(6, set, words, 13));
+}
+
+static void exchanged_heights(void) {
+    uint64_t with[SIZE], wanted[SIZE], altered[SIZE], set[SIZE];
+    junk_beyond(altered, T);
+    for (uint64_t height = 0; height <= 32; height++) {
+        make(wanted, 4, 2, height, 2, 0, diagonal, 4, constants, 8);
+        fill(with, 9, SIZE);
+        expect("another h", opening_tree_exchange_height(T, height, with) == 0 && same(with, wanted, SIZE));
+        fill(with, 9, SIZE);
+        expect("beyond its words", opening_tree_exchange_height(altered, height, with) == 0 && same(with, wanted, SIZE));
+        make(wanted, 4, 2, height, 2, 1, one_zero, 4, one_zero_constants, 9);
+        expect("another h, with a zero", opening_tree_exchange_height(V, height, with) == 0 && same(with, wanted, SIZE));
+    }
+    make(set, OPENING_TREE_PUBLISHED_12(4, 2));
+    make(wanted, OPENING_TREE_PUBLISHED_12(4, 20));
+    expect("the greatest h", opening_tree_exchange_height(set, 20, with) == 0 && same(with, wanted, SIZE));
+    expect("and the set's own", opening_tree_exchange_height(with, 2, altered) == 0 && same(altered, set, SIZE));
+    fill(with, 9, SIZE);
+    expect("3^21 leaves", opening_tree_exchange_height(set, 21, with) == OPENING_TREE_BAD_HEIGHT && all(with, 9, SIZE));
+    expect("h = 33", opening_tree_exchange_height(T, 33, with) == 5 && all(with, 9, SIZE));
+    expect("the most", opening_tree_exchange_height(T, UINT64_MAX, with) == 5 && all(with, 9, SIZE));
+    alter(altered, T, HEIGHT, 33);
+    expect("the old h is 33", opening_tree_exchange_height(altered, 1, with) == 5 && all(with, 9, SIZE));
+    expect("and D another", no_exchange(5, altered, balanced, 4));
+}
+
+/* A zero at each place of the published sets' diagonals, which then permute otherwise, and back. Two at any two places are refused. */
+static void zeros_at_places(const uint64_t *set) {
+    const size_t width = set[WIDTH];
+    uint64_t given[12], state[12], other[12], words[12], with[SIZE], two[SIZE];
+    for (uint64_t i = 0; i < width; i++) given[i] = other[i] = P - 1 - i;
+    expect("no zero", opening_tree_permute(set, other, width) == 0);
+    for (size_t i = 0; i < width; i++) {
+        memcpy(words, set + DIAGONAL, width * sizeof *words);
+        memcpy(state, given, width * sizeof *state);
+        words[i] = 0;
+        expect("a zero", exchanges(set, words, with));
+        expect("a zero: permute", opening_tree_permute(with, state, width) == 0 && !same(state, other, width));
+        expect("a zero: unpermute", opening_tree_unpermute(with, state, width) == 0 && same(state, given, width));
+        for (size_t j = 0; j < i; j++) {
+            words[j] = 0;
+            expect("two zeros", no_exchange(OPENING_TREE_ZERO_IN_DIAGONAL, set, words, width));
+            words[j] = set[DIAGONAL + j];
+            alter(two, with, DIAGONAL + j, 0);
+            expect("two zeros: kept", opening_tree_unpermute(two, state, width) == 8 && same(state, given, width));
+        }
+    }
 }
 
 static void zeros(void) {
     static const uint64_t places[4][4] = {{0, 2, 3, 4}, {1, 0, 3, 4}, {1, 2, 0, 4}, {1, 2, 3, 0}};
-    for (int i = 0; i < 4; i++) expect("a zero at each place", opening_tree_validate(4, 2, 1, 2, 0, places[i], 4, constants, 8) == 0);
-    under_a_zero(V);
-    under_a_zero(CANCELLING);
-    zeros_at_places(OPENING_TREE_PUBLISHED_8(4, 1));
-    zeros_at_places(OPENING_TREE_PUBLISHED_12(4, 1));
-    refuses_two_zeros();
+    uint64_t set[SIZE];
+    for (int i = 0; i < 4; i++) {
+        make(set, 4, 2, 1, 2, 0, places[i], 4, constants, 8);
+        works(set);
+    }
+    make(set, OPENING_TREE_PUBLISHED_8(4, 1));
+    zeros_at_places(set);
+    make(set, OPENING_TREE_PUBLISHED_12(4, 1));
+    zeros_at_places(set);
 }
 
 /* A tree in buffers that are made by the sizes: these are the counts that the other functions take, and one more or less is refused. */
-static void buffers(OPENING_TREE_SET) {
+static void buffers(const uint64_t *set) {
+    const uint64_t node_size = set[NODE_SIZE];
     uint64_t leaves_count = 0, store_count = 0, siblings_count = 0;
-    if (opening_tree_sizes(HANDED, &leaves_count, &store_count, &siblings_count) != 0) abort();
+    if (opening_tree_sizes(set, &leaves_count, &store_count, &siblings_count) != 0) abort();
     /* One number more each, for a count that is refused. */
     uint64_t *leaves = (uint64_t *)calloc(leaves_count + 1, sizeof *leaves);
     uint64_t *store = (uint64_t *)calloc(store_count + 1, sizeof *store);
@@ -227,14 +487,14 @@ static void buffers(OPENING_TREE_SET) {
     for (uint64_t i = 0; i < leaves_count; i++) leaves[i] = i;
     const uint64_t *root = store + store_count - node_size, *leaf = leaves + leaves_count - node_size;
     const uint64_t last = leaves_count / node_size - 1;
-    expect("one leaf number more", opening_tree_build(HANDED, leaves, leaves_count + 1, store, store_count) == 10);
-    expect("one leaf number less", opening_tree_build(HANDED, leaves, leaves_count - 1, store, store_count) == 10);
-    expect("a store of one more", opening_tree_build(HANDED, leaves, leaves_count, store, store_count + 1) == 10);
-    expect("a store of one less", opening_tree_build(HANDED, leaves, leaves_count, store, store_count - 1) == 10);
-    expect("build, by the sizes", opening_tree_build(HANDED, leaves, leaves_count, store, store_count) == 0);
-    expect("an opening of one more", opening_tree_open(HANDED, store, store_count, last, siblings, siblings_count + 1) == 10);
-    expect("open, by the sizes", opening_tree_open(HANDED, store, store_count, last, siblings, siblings_count) == 0);
-    expect("verify, by the sizes", opening_tree_verify(HANDED, root, node_size, last, leaf, node_size, siblings, siblings_count) == 0);
+    expect("one leaf number more", opening_tree_build(set, leaves, leaves_count + 1, store, store_count) == 10);
+    expect("one leaf number less", opening_tree_build(set, leaves, leaves_count - 1, store, store_count) == 10);
+    expect("a store of one more", opening_tree_build(set, leaves, leaves_count, store, store_count + 1) == 10);
+    expect("a store of one less", opening_tree_build(set, leaves, leaves_count, store, store_count - 1) == 10);
+    expect("build, by the sizes", opening_tree_build(set, leaves, leaves_count, store, store_count) == 0);
+    expect("an opening of one more", opening_tree_open(set, store, store_count, last, siblings, siblings_count + 1) == 10);
+    expect("open, by the sizes", opening_tree_open(set, store, store_count, last, siblings, siblings_count) == 0);
+    expect("verify, by the sizes", opening_tree_verify(set, root, node_size, last, leaf, node_size, siblings, siblings_count) == 0);
     free(leaves);
     free(store);
     free(siblings);
@@ -279,7 +539,6 @@ static void records(void) {
     expect("over 2^32 records", opening_tree_push(T, store, 6, two, most + 1, &made) == 10 && made == 99 && store[0] == 0);
     expect("more than fit", opening_tree_push(T, store, 6, two, wraps, &made) == 10 && made == 99 && store[0] == 0);
     expect("the most", opening_tree_push(T, store, 6, two, SIZE_MAX, &made) == 10 && made == 99 && store[0] == 0);
-    expect("a set that is refused", opening_tree_push(4, 2, 1, 2, 0, singular, 4, constants, 8, store, 6, two, SIZE_MAX, &made) == 9);
     expect("two records", opening_tree_push(T, store, 6, two, 2, &made) == 0 && made == 1 && same(store, built, 6));
     memset(store, 0, sizeof store);
     expect("the first", opening_tree_push(T, store, 6, two, 1, &made) == 0 && made == 1 && !same(store, built, 6));
@@ -403,7 +662,7 @@ static void repeats(void) {
 
 /* A set that was made for two leaves which are both accepted at place 3 under one root, and so is not safe: their rows at level 1 collide.
    At each level the sibling comes first. */
-#define WEAK 4, 2, 2, 2, 0, weak_diagonal, 4, weak_constants, 8
+static uint64_t WEAK[SIZE];
 static const uint64_t weak_diagonal[4] = {2323977009865630898U, 12518514558001707300U, 668178666096051417U, 9875627240877486526U};
 static const uint64_t weak_constants[8] = {1372557943261738864U,  5032861063245982280U, 2810201305772277961U,  1726419793238167099U,
                                            11056965576908617619U, 1269056739062402058U, 13680347514614465711U, 4294967295U};
@@ -415,6 +674,7 @@ static const uint64_t weak_siblings[2][4] = {
 
 static void extraction(void) {
     uint64_t rows[2][4], made[2][4], level = 99;
+    make(WEAK, 4, 2, 2, 2, 0, weak_diagonal, 4, weak_constants, 8);
     for (int i = 0; i < 2; i++) {
         const uint64_t *leaf = weak_leaves[i], *siblings = weak_siblings[i];
         const uint64_t below[4] = {siblings[0], siblings[1], leaf[0], leaf[1]};
@@ -473,36 +733,9 @@ static void long_files(void) {
     expect("a leaf of three numbers", opening_tree_leaf_of_file(T, one, over, leaf, 3) == 10 && same(leaf, kept, 3));
     expect("a leaf of none", opening_tree_leaf_of_file(T, one, over, NULL, 0) == 10);
     expect("a short file, and a leaf of three", opening_tree_leaf_of_file(T, one, 1, leaf, 3) == 10 && same(leaf, kept, 3));
-    expect("a set that is refused", opening_tree_leaf_of_file(4, 2, 1, 2, 0, singular, 4, constants, 8, one, over, leaf, 3) == 9 &&
-                                        same(leaf, kept, 3));
 }
 
-/* NULL with the count 0, for every slice: refused where the slice has numbers, and taken where it has none. T without its lists. */
-#define BARE 4, 2, 1, 2, 0, NULL, 0, NULL, 0
-
-static void null_lists(void) {
-    uint64_t made = 99, level = 99;
-    expect("no D", opening_tree_validate(4, 2, 1, 2, 0, NULL, 0, constants, 8) == 6);
-    expect("no C", opening_tree_validate(4, 2, 1, 2, 0, diagonal, 4, NULL, 0) == 6);
-    expect("no lists: validate", opening_tree_validate(BARE) == 6);
-    expect("no lists: permute", opening_tree_permute(BARE, NULL, 0) == 6);
-    expect("no lists: unpermute", opening_tree_unpermute(BARE, NULL, 0) == 6);
-    expect("no lists: compress", opening_tree_compress(BARE, NULL, 0, NULL, 0) == 6);
-    expect("no lists: sizes", refuses_sizes(BARE, 6));
-    expect("no lists: build", opening_tree_build(BARE, NULL, 0, NULL, 0) == 6);
-    expect("no lists: root", opening_tree_root(BARE, NULL, 0, NULL, 0) == 6);
-    expect("no lists: storeless root", opening_tree_storeless_root(BARE, NULL, 0, NULL, 0) == 6);
-    expect("no lists: open", opening_tree_open(BARE, NULL, 0, 0, NULL, 0) == 6);
-    expect("no lists: verify", opening_tree_verify(BARE, NULL, 0, 0, NULL, 0, NULL, 0) == 6);
-    expect("no lists: read level", opening_tree_read_level(BARE, NULL, 0, 0, NULL, 0) == 6);
-    expect("no lists: replace", opening_tree_replace(BARE, NULL, 0, 0, NULL, 0, &made) == 6);
-    expect("no lists: push", opening_tree_push(BARE, NULL, 0, NULL, 0, &made) == 6);
-    expect("no lists: push, numbers", opening_tree_push_numbers(BARE, NULL, 0, NULL, 0, &made) == 6);
-    expect("no lists: extract", opening_tree_extract(BARE, NULL, 0, 0, NULL, 0, NULL, 0, NULL, 0, NULL, 0, NULL, 0, NULL, 0, &level) == 6);
-    expect("no lists: leaf of a file", opening_tree_leaf_of_file(BARE, NULL, 0, NULL, 0) == 6);
-    expect("no lists: nothing is written", made == 99 && level == 99);
-}
-
+/* NULL with the count 0, for every slice: refused where the slice has numbers, and taken where it has none. */
 static void null_buffers(void) {
     const uint64_t four[4] = {1, 0, 0, 0}, store[6] = {1, 0, 0, 0, 6, 4};
     uint64_t out[6] = {9, 9, 9, 9, 9, 9}, kept[6] = {9, 9, 9, 9, 9, 9}, made = 99;
@@ -569,15 +802,24 @@ static void null_openings(void) {
 }
 
 int main(void) {
+    uint64_t set[SIZE];
     field();
+    sets();
+    no_sets();
     states();
     published();
     sizes();
+    refused_sets();
+    judged();
+    exchanged_diagonals();
+    exchanged_heights();
     zeros();
     buffers(T);
     buffers(LOW);
-    buffers(OPENING_TREE_PUBLISHED_12(4, 2));
-    buffers(OPENING_TREE_PUBLISHED_8(2, 3));
+    make(set, OPENING_TREE_PUBLISHED_12(4, 2));
+    buffers(set);
+    make(set, OPENING_TREE_PUBLISHED_8(2, 3));
+    buffers(set);
     trees();
     changes();
     records();
@@ -588,7 +830,6 @@ int main(void) {
     collisions();
     files();
     long_files();
-    null_lists();
     null_buffers();
     null_rows();
     null_openings();

@@ -66,7 +66,7 @@ for entry in entries:
     edits = list(ROOT.glob(f"crates/*/must-fail/{entry}-*.edit"))
     check(len(edits) > 1, f"{entry} has {len(edits)} must-fail edits named for it")
 
-KNOW_THE_PRIME = {"modular", "field", "layers", "permutation", "fields"}
+KNOW_THE_PRIME = {"modular", "field", "roots", "layers", "permutation", "fields"}
 NAMES = re.compile(r"Goldilocks|goldilocks|18446744069414584321|(?<!\w)(field|layers)::")
 crates = {line.split(":")[0] for line in read("crates.txt").splitlines() if line and not line.startswith("#")}
 check(KNOW_THE_PRIME < crates, "crates.txt lacks a crate that knows the prime")

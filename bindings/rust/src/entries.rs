@@ -1,15 +1,28 @@
-//! The twenty-one functions of the library, over any numbers and slices. Nothing is presumed: what doesn't fit is refused by a number of
+//! The twenty-three functions of the library, over any numbers and slices. Nothing is presumed: what doesn't fit is refused by a number of
 //! the table, and after a refusal every buffer holds what it held.
 //!
 //! Below t is the width, l the node size, h the height and k = t / l. A store is its levels one after another, leaves first,
-//! l numbers a node. Every function that takes a set validates it first: refusals 1 to 9. The lengths that leaves, stores and siblings must
-//! have are those of [`sizes`].
+//! l numbers a node. The lengths that leaves, stores and siblings must have are those of [`sizes`].
+//!
+//! A set is an array of [`SET_SIZE`] numbers, which [`validate`] gives:
+//!
+//! | places | |
+//! |---|---|
+//! | 0 to 4 | t, l, h, R_F and R_P |
+//! | 5 to 16 | D, t words in 12 places |
+//! | 17 to 224 | C, t × R_F + R_P words in 208 places |
+//! | 225 to 236 | the kept inverse of each word of D, 0 for a 0, in 12 places |
+//! | 237 | the kept inverse of 1 plus the sum of these, 0 where D has a 0 |
+//!
+//! The places after a list's last word are 0 in what is given, and are not read in what is handed in. The inverses are kept so that
+//! [`unpermute`] inverts nothing. Any array may be handed in: every function that takes a set first judges it anew, its kept values too, by
+//! refusals 1 to 5, 7 to 9 and 18, in this order. "The set's" below are these.
 //!
 //! ```
 //! use opening_tree::entries::{self, SetNumbers};
 //! use opening_tree::{published, Refusal};
 //!
-//! let set = SetNumbers {
+//! let mut set = entries::validate(&SetNumbers {
 //!     width: 8,
 //!     node_size: 4,
 //!     height: 1,
@@ -17,13 +30,16 @@
 //!     partial_rounds: published::PARTIAL_ROUNDS,
 //!     diagonal: &published::DIAGONAL_8,
 //!     constants: &published::CONSTANTS_8,
-//! };
+//! })?;
 //! let mut state = [0, 1, 2, 3, 4, 5, 6, 7];
 //! entries::permute(&set, &mut state)?;
 //! assert_eq!(state[0], 14266028122062624699); // as published
 //! entries::unpermute(&set, &mut state)?;
 //! assert_eq!(state, [0, 1, 2, 3, 4, 5, 6, 7]);
 //! assert_eq!(entries::permute(&set, &mut [1, 0, 0]), Err(Refusal::BadLength));
+//!
+//! set[225] += 1; // a kept inverse
+//! assert_eq!(entries::unpermute(&set, &mut state), Err(Refusal::BadKeptValues));
 //! # Ok::<(), Refusal>(())
 //! ```
 
@@ -32,7 +48,10 @@ use crate::refusal::Refusal;
 use crate::sys;
 use crate::verdict::Verdict;
 
-/// The numbers of a parameter set, as they were handed in.
+/// How many numbers the array of a set has.
+pub const SET_SIZE: usize = 238;
+
+/// The numbers and lists that a parameter set is made of.
 #[derive(Clone, Copy, Debug, PartialEq, Eq, Hash)]
 pub struct SetNumbers<'a> {
     /// t
@@ -98,22 +117,11 @@ fn written(call: impl FnOnce(&mut u64) -> u8) -> Result<u64, Refusal> {
     Ok(number)
 }
 
-/// Calls a function of `sys` with a set's numbers and the arguments after them.
-macro_rules! call {
-    ($function:ident, $set:expr $(, $argument:expr)*) => {
-        sys::$function(
-            $set.width,
-            $set.node_size,
-            $set.height,
-            $set.full_rounds,
-            $set.partial_rounds,
-            $set.diagonal.as_ptr(),
-            $set.diagonal.len(),
-            $set.constants.as_ptr(),
-            $set.constants.len()
-            $(, $argument)*
-        )
-    };
+/// The set that a function writes.
+fn written_set(call: impl FnOnce(&mut [u64; SET_SIZE]) -> u8) -> Result<[u64; SET_SIZE], Refusal> {
+    let mut set = [0; SET_SIZE];
+    done(call(&mut set))?;
+    Ok(set)
 }
 
 /// a + b. Refusal 12.
@@ -152,114 +160,170 @@ pub fn seventh_root(y: u64) -> Result<u64, Refusal> {
     written(|result| unsafe { sys::opening_tree_seventh_root(y, result) })
 }
 
-/// Whether a set is accepted. Refusals 1 to 9.
-pub fn validate(set: &SetNumbers) -> Result<(), Refusal> {
-    // SAFETY: each pointer comes with its slice's length.
-    done(unsafe { call!(opening_tree_validate, set) })
+/// The set of these numbers and lists, with its kept values. Refusals 1 to 9.
+pub fn validate(numbers: &SetNumbers) -> Result<[u64; SET_SIZE], Refusal> {
+    let SetNumbers { width, node_size, height, full_rounds, partial_rounds, diagonal, constants } = *numbers;
+    // SAFETY: each pointer comes with its slice's length, and the set that is written is borrowed alone.
+    written_set(|set| unsafe {
+        sys::opening_tree_validate(
+            width,
+            node_size,
+            height,
+            full_rounds,
+            partial_rounds,
+            diagonal.as_ptr(),
+            diagonal.len(),
+            constants.as_ptr(),
+            constants.len(),
+            set.as_mut_ptr(),
+        )
+    })
 }
 
-/// The permutation of t words, in place. Refusals 1 to 10 and 12.
-pub fn permute(set: &SetNumbers, state: &mut [u64]) -> Result<(), Refusal> {
-    // SAFETY: each pointer comes with its slice's length, and the slice that is written is borrowed alone.
-    done(unsafe { call!(opening_tree_permute, set, state.as_mut_ptr(), state.len()) })
-}
-
-/// The words whose permutation is given, in place. Refusals 1 to 10 and 12.
-pub fn unpermute(set: &SetNumbers, state: &mut [u64]) -> Result<(), Refusal> {
-    // SAFETY: each pointer comes with its slice's length, and the slice that is written is borrowed alone.
-    done(unsafe { call!(opening_tree_unpermute, set, state.as_mut_ptr(), state.len()) })
-}
-
-/// The compression of t words, written to a node of l. Refusals 1 to 10 and 12.
-pub fn compress(set: &SetNumbers, state: &[u64], node: &mut [u64]) -> Result<(), Refusal> {
-    // SAFETY: each pointer comes with its slice's length, and the slice that is written is borrowed alone.
-    done(unsafe { call!(opening_tree_compress, set, state.as_ptr(), state.len(), node.as_mut_ptr(), node.len()) })
-}
-
-/// How many numbers the buffers of a set's tree have. Refusals 1 to 9.
+/// The set with another D: the one that [`validate`] gives for the set's five numbers, this D and the set's C. Refusals: the set's; then 6
+/// for a D that is not of t numbers, and 7 to 9 for its words.
 ///
 /// ```
-/// use opening_tree::entries::{self, SetNumbers, Sizes};
+/// use opening_tree::entries;
+/// use opening_tree::{published, Refusal};
+///
+/// let set = published::width_8(4, 1)?;
+/// let with_zero = entries::exchange_diagonal(set.array(), &[0, 1, 2, 3, 4, 5, 6, 7])?;
+/// assert_eq!(with_zero[225..228], [0, 1, 9223372034707292161]); // the inverses of 0, 1 and 2
+/// assert_eq!(entries::exchange_diagonal(&with_zero, &[1, 2, 3]), Err(Refusal::BadListLength));
+/// assert_eq!(entries::exchange_diagonal(&with_zero, &published::DIAGONAL_8)?, *set.array());
+/// # Ok::<(), Refusal>(())
+/// ```
+pub fn exchange_diagonal(set: &[u64; SET_SIZE], diagonal: &[u64]) -> Result<[u64; SET_SIZE], Refusal> {
+    // SAFETY: the set is whole, each other pointer comes with its slice's length, and the set that is written is borrowed alone.
+    written_set(|exchanged| unsafe {
+        sys::opening_tree_exchange_diagonal(set.as_ptr(), diagonal.as_ptr(), diagonal.len(), exchanged.as_mut_ptr())
+    })
+}
+
+/// The set with another h: the one that [`validate`] gives for the set's numbers and lists with this h. Refusals: the set's; then 5.
+///
+/// ```
+/// use opening_tree::entries;
+/// use opening_tree::{published, Refusal};
+///
+/// let set = published::width_12(4, 2)?;
+/// let taller = entries::exchange_height(set.array(), 20)?;
+/// assert_eq!(taller, *published::width_12(4, 20)?.array());
+/// assert_eq!(entries::exchange_height(&taller, 21), Err(Refusal::BadHeight));
+/// # Ok::<(), Refusal>(())
+/// ```
+pub fn exchange_height(set: &[u64; SET_SIZE], height: u64) -> Result<[u64; SET_SIZE], Refusal> {
+    // SAFETY: the set is whole, and the set that is written is borrowed alone.
+    written_set(|exchanged| unsafe { sys::opening_tree_exchange_height(set.as_ptr(), height, exchanged.as_mut_ptr()) })
+}
+
+/// The permutation of t words, in place. Refusals: the set's, 10 and 12.
+pub fn permute(set: &[u64; SET_SIZE], state: &mut [u64]) -> Result<(), Refusal> {
+    // SAFETY: the set is whole, each other pointer comes with its slice's length, and the slice that is written is borrowed alone.
+    done(unsafe { sys::opening_tree_permute(set.as_ptr(), state.as_mut_ptr(), state.len()) })
+}
+
+/// The words whose permutation is given, in place. Refusals: the set's, 10 and 12.
+pub fn unpermute(set: &[u64; SET_SIZE], state: &mut [u64]) -> Result<(), Refusal> {
+    // SAFETY: the set is whole, each other pointer comes with its slice's length, and the slice that is written is borrowed alone.
+    done(unsafe { sys::opening_tree_unpermute(set.as_ptr(), state.as_mut_ptr(), state.len()) })
+}
+
+/// The compression of t words, written to a node of l. Refusals: the set's, 10 and 12.
+pub fn compress(set: &[u64; SET_SIZE], state: &[u64], node: &mut [u64]) -> Result<(), Refusal> {
+    // SAFETY: the set is whole, each other pointer comes with its slice's length, and the slice that is written is borrowed alone.
+    done(unsafe { sys::opening_tree_compress(set.as_ptr(), state.as_ptr(), state.len(), node.as_mut_ptr(), node.len()) })
+}
+
+/// How many numbers the buffers of a set's tree have. Refusals: the set's.
+///
+/// ```
+/// use opening_tree::entries::{self, Sizes};
 /// use opening_tree::{published, Refusal};
 ///
 /// let set = published::width_12(4, 2)?; // nodes of four words, three to a row, and nine leaves
-/// let sizes = entries::sizes(&set.numbers())?;
+/// let sizes = entries::sizes(set.array())?;
 /// assert_eq!(sizes, Sizes { leaves: 9 * 4, store: (9 + 3 + 1) * 4, opening: 2 * 2 * 4 });
 ///
-/// let taller = SetNumbers { height: 21, ..set.numbers() };
+/// let mut taller = *set.array();
+/// taller[2] = 21; // h
 /// assert_eq!(entries::sizes(&taller), Err(Refusal::BadHeight));
 /// # Ok::<(), Refusal>(())
 /// ```
-pub fn sizes(set: &SetNumbers) -> Result<Sizes, Refusal> {
+pub fn sizes(set: &[u64; SET_SIZE]) -> Result<Sizes, Refusal> {
     let mut sizes = Sizes { leaves: 0, store: 0, opening: 0 };
-    // SAFETY: each pointer comes with its slice's length, and the three numbers that are written are borrowed alone.
-    done(unsafe { call!(opening_tree_sizes, set, &mut sizes.leaves, &mut sizes.store, &mut sizes.opening) })?;
+    // SAFETY: the set is whole, and the three numbers that are written are borrowed alone.
+    done(unsafe { sys::opening_tree_sizes(set.as_ptr(), &mut sizes.leaves, &mut sizes.store, &mut sizes.opening) })?;
     Ok(sizes)
 }
 
-/// The whole store of k^h leaves. Refusals 1 to 10 and 12.
-pub fn build(set: &SetNumbers, leaves: &[u64], store: &mut [u64]) -> Result<(), Refusal> {
-    // SAFETY: each pointer comes with its slice's length, and the slice that is written is borrowed alone.
-    done(unsafe { call!(opening_tree_build, set, leaves.as_ptr(), leaves.len(), store.as_mut_ptr(), store.len()) })
+/// The whole store of k^h leaves. Refusals: the set's, 10 and 12.
+pub fn build(set: &[u64; SET_SIZE], leaves: &[u64], store: &mut [u64]) -> Result<(), Refusal> {
+    // SAFETY: the set is whole, each other pointer comes with its slice's length, and the slice that is written is borrowed alone.
+    done(unsafe { sys::opening_tree_build(set.as_ptr(), leaves.as_ptr(), leaves.len(), store.as_mut_ptr(), store.len()) })
 }
 
-/// The root of a store, its last l numbers, copied to the node. Refusals 1 to 10, and 12 for these l.
-pub fn root(set: &SetNumbers, store: &[u64], node: &mut [u64]) -> Result<(), Refusal> {
-    // SAFETY: each pointer comes with its slice's length, and the slice that is written is borrowed alone.
-    done(unsafe { call!(opening_tree_root, set, store.as_ptr(), store.len(), node.as_mut_ptr(), node.len()) })
+/// The root of a store, its last l numbers, copied to the node. Refusals: the set's, 10, and 12 for these l.
+pub fn root(set: &[u64; SET_SIZE], store: &[u64], node: &mut [u64]) -> Result<(), Refusal> {
+    // SAFETY: the set is whole, each other pointer comes with its slice's length, and the slice that is written is borrowed alone.
+    done(unsafe { sys::opening_tree_root(set.as_ptr(), store.as_ptr(), store.len(), node.as_mut_ptr(), node.len()) })
 }
 
-/// The root of k^h leaves, written to the node, without a store. Refusals 1 to 10 and 12.
-pub fn storeless_root(set: &SetNumbers, leaves: &[u64], node: &mut [u64]) -> Result<(), Refusal> {
-    // SAFETY: each pointer comes with its slice's length, and the slice that is written is borrowed alone.
-    done(unsafe { call!(opening_tree_storeless_root, set, leaves.as_ptr(), leaves.len(), node.as_mut_ptr(), node.len()) })
+/// The root of k^h leaves, written to the node, without a store. Refusals: the set's, 10 and 12.
+pub fn storeless_root(set: &[u64; SET_SIZE], leaves: &[u64], node: &mut [u64]) -> Result<(), Refusal> {
+    // SAFETY: the set is whole, each other pointer comes with its slice's length, and the slice that is written is borrowed alone.
+    done(unsafe { sys::opening_tree_storeless_root(set.as_ptr(), leaves.as_ptr(), leaves.len(), node.as_mut_ptr(), node.len()) })
 }
 
-/// The opening of a place, h × (k - 1) × l numbers: its siblings at each level from the leaves up. Refusals 1 to 11, and 12 for the
-/// numbers copied.
-pub fn open(set: &SetNumbers, store: &[u64], place: u64, siblings: &mut [u64]) -> Result<(), Refusal> {
-    // SAFETY: each pointer comes with its slice's length, and the slice that is written is borrowed alone.
-    done(unsafe { call!(opening_tree_open, set, store.as_ptr(), store.len(), place, siblings.as_mut_ptr(), siblings.len()) })
+/// The opening of a place, h × (k - 1) × l numbers: its siblings at each level from the leaves up. Refusals: the set's, 10, 11, and 12 for
+/// the numbers copied.
+pub fn open(set: &[u64; SET_SIZE], store: &[u64], place: u64, siblings: &mut [u64]) -> Result<(), Refusal> {
+    // SAFETY: the set is whole, each other pointer comes with its slice's length, and the slice that is written is borrowed alone.
+    done(unsafe {
+        sys::opening_tree_open(set.as_ptr(), store.as_ptr(), store.len(), place, siblings.as_mut_ptr(), siblings.len())
+    })
 }
 
-/// Whether the leaf stood at the place under the root: `Verdict::Accepted` and nothing else is a yes. Refusals 1 to 12.
-pub fn verify(set: &SetNumbers, root: &[u64], place: u64, leaf: &[u64], siblings: &[u64]) -> Verdict {
-    // SAFETY: each pointer comes with its slice's length, and nothing is written.
+/// Whether the leaf stood at the place under the root: `Verdict::Accepted` and nothing else is a yes. Refusals: the set's, 10 to 12.
+pub fn verify(set: &[u64; SET_SIZE], root: &[u64], place: u64, leaf: &[u64], siblings: &[u64]) -> Verdict {
+    // SAFETY: the set is whole, each other pointer comes with its slice's length, and nothing is written.
     verdict(unsafe {
-        call!(
-            opening_tree_verify,
-            set,
+        sys::opening_tree_verify(
+            set.as_ptr(),
             root.as_ptr(),
             root.len(),
             place,
             leaf.as_ptr(),
             leaf.len(),
             siblings.as_ptr(),
-            siblings.len()
+            siblings.len(),
         )
     })
 }
 
-/// The siblings of one level, (k - 1) × l numbers, copied to the part. Refusals 1 to 10, 11 for a level not below h, and 12 for the
+/// The siblings of one level, (k - 1) × l numbers, copied to the part. Refusals: the set's, 10, 11 for a level not below h, and 12 for the
 /// numbers copied.
-pub fn read_level(set: &SetNumbers, siblings: &[u64], level: u64, part: &mut [u64]) -> Result<(), Refusal> {
-    // SAFETY: each pointer comes with its slice's length, and the slice that is written is borrowed alone.
-    done(unsafe { call!(opening_tree_read_level, set, siblings.as_ptr(), siblings.len(), level, part.as_mut_ptr(), part.len()) })
+pub fn read_level(set: &[u64; SET_SIZE], siblings: &[u64], level: u64, part: &mut [u64]) -> Result<(), Refusal> {
+    // SAFETY: the set is whole, each other pointer comes with its slice's length, and the slice that is written is borrowed alone.
+    done(unsafe {
+        sys::opening_tree_read_level(set.as_ptr(), siblings.as_ptr(), siblings.len(), level, part.as_mut_ptr(), part.len())
+    })
 }
 
-/// Puts a leaf at its place in the store, and writes the h nodes above it. Answers the compressions made, h. Refusals 1 to 11, and 12 for
-/// the leaf and the stored siblings that are read.
-pub fn replace(set: &SetNumbers, store: &mut [u64], place: u64, leaf: &[u64]) -> Result<u64, Refusal> {
-    // SAFETY: each pointer comes with its slice's length; the slice and the number that are written are borrowed alone.
+/// Puts a leaf at its place in the store, and writes the h nodes above it. Answers the compressions made, h. Refusals: the set's, 10,
+/// 11, and 12 for the leaf and the stored siblings that are read.
+pub fn replace(set: &[u64; SET_SIZE], store: &mut [u64], place: u64, leaf: &[u64]) -> Result<u64, Refusal> {
+    // SAFETY: the set is whole, each other pointer comes with its slice's length, and what is written is borrowed alone.
     written(|made| unsafe {
-        call!(opening_tree_replace, set, store.as_mut_ptr(), store.len(), place, leaf.as_ptr(), leaf.len(), made)
+        sys::opening_tree_replace(set.as_ptr(), store.as_mut_ptr(), store.len(), place, leaf.as_ptr(), leaf.len(), made)
     })
 }
 
 /// Puts the leaves of records at their places in the store, all or none, and writes the nodes above them, each once. The store is then
 /// the one that the records leave if each is a [`replace`] of its own, in order. Answers the compressions made, which is the number of
 /// different nodes above the places, on all levels together: at most h for each record, fewer where places have a node above them in
-/// common, and h for one record. Refusals 1 to 11, 12 for the leaves of the records and the whole store, and 17.
+/// common, and h for one record. Refusals: the set's, 10, 11, 12 for the leaves of the records and the whole store, and 17.
 ///
 /// A list that has a place twice is refused with 17, whatever the leaves, and nothing is written. Equal leaves may go to different places.
 ///
@@ -270,13 +334,13 @@ pub fn replace(set: &SetNumbers, store: &mut [u64], place: u64, leaf: &[u64]) ->
 /// let set = published::width_8(4, 1)?; // two leaves of four words
 /// let mut store = [0; 12];
 /// let [first, second] = [0, 1].map(|place| Record { place, words: [7; 6] });
-/// assert_eq!(entries::push(&set.numbers(), &mut store, &[first, second, first]), Err(Refusal::RepeatedPlace));
+/// assert_eq!(entries::push(set.array(), &mut store, &[first, second, first]), Err(Refusal::RepeatedPlace));
 /// assert_eq!(store, [0; 12]);
-/// assert_eq!(entries::push(&set.numbers(), &mut store, &[second, first]), Ok(1)); // the root is above both
+/// assert_eq!(entries::push(set.array(), &mut store, &[second, first]), Ok(1)); // the root is above both
 /// assert_eq!(store[..8], [7; 8]);
 /// # Ok::<(), Refusal>(())
 /// ```
-pub fn push(set: &SetNumbers, store: &mut [u64], records: &[Record]) -> Result<u64, Refusal> {
+pub fn push(set: &[u64; SET_SIZE], store: &mut [u64], records: &[Record]) -> Result<u64, Refusal> {
     push_numbers(set, store, record_numbers(records))
 }
 
@@ -284,19 +348,19 @@ pub fn push(set: &SetNumbers, store: &mut [u64], records: &[Record]) -> Result<u
 /// Refusal 10 also for a list that is not a multiple of seven. A list that has a place twice is refused here too, and nothing is written.
 ///
 /// [`record_numbers`] makes the flat list of [`Record`]s.
-pub fn push_numbers(set: &SetNumbers, store: &mut [u64], numbers: &[u64]) -> Result<u64, Refusal> {
-    // SAFETY: each pointer comes with its slice's length; the slice and the number that are written are borrowed alone.
+pub fn push_numbers(set: &[u64; SET_SIZE], store: &mut [u64], numbers: &[u64]) -> Result<u64, Refusal> {
+    // SAFETY: the set is whole, each other pointer comes with its slice's length, and what is written is borrowed alone.
     written(|made| unsafe {
-        call!(opening_tree_push_numbers, set, store.as_mut_ptr(), store.len(), numbers.as_ptr(), numbers.len(), made)
+        sys::opening_tree_push_numbers(set.as_ptr(), store.as_mut_ptr(), store.len(), numbers.as_ptr(), numbers.len(), made)
     })
 }
 
 /// Of two leaves with their openings, both accepted at the place under the root: answers the lowest level at which their rows differ
-/// and compress alike, and writes the first leaf's row to `first_row` and the second's to `second_row`, t numbers each. Refusals 1 to 12,
-/// 14 and 15.
+/// and compress alike, and writes the first leaf's row to `first_row` and the second's to `second_row`, t numbers each. Refusals: the
+/// set's, 10 to 12, 14 and 15.
 #[allow(clippy::too_many_arguments)] // The C function's own.
 pub fn extract(
-    set: &SetNumbers,
+    set: &[u64; SET_SIZE],
     root: &[u64],
     place: u64,
     first: &[u64],
@@ -306,11 +370,10 @@ pub fn extract(
     first_row: &mut [u64],
     second_row: &mut [u64],
 ) -> Result<u64, Refusal> {
-    // SAFETY: each pointer comes with its slice's length; the slices and the number that are written are borrowed alone.
+    // SAFETY: the set is whole, each other pointer comes with its slice's length, and what is written is borrowed alone.
     written(|level| unsafe {
-        call!(
-            opening_tree_extract,
-            set,
+        sys::opening_tree_extract(
+            set.as_ptr(),
             root.as_ptr(),
             root.len(),
             place,
@@ -326,18 +389,20 @@ pub fn extract(
             first_row.len(),
             second_row.as_mut_ptr(),
             second_row.len(),
-            level
+            level,
         )
     })
 }
 
-/// The leaf of a file, l numbers, from its contents (see [`ParameterSet::leaf_of_file`]). Refusals 1 to 10, and 16 for contents of over
-/// 4294967295 bytes. A call that is refused reads nothing of the contents.
+/// The leaf of a file, l numbers, from its contents (see [`ParameterSet::leaf_of_file`]). Refusals: the set's, 10, and 16 for contents
+/// of over 4294967295 bytes. A call that is refused reads nothing of the contents.
 ///
 /// [`ParameterSet::leaf_of_file`]: crate::ParameterSet::leaf_of_file
-pub fn leaf_of_file(set: &SetNumbers, contents: &[u8], leaf: &mut [u64]) -> Result<(), Refusal> {
-    // SAFETY: each pointer comes with its slice's length, and the slice that is written is borrowed alone.
-    done(unsafe { call!(opening_tree_leaf_of_file, set, contents.as_ptr(), contents.len(), leaf.as_mut_ptr(), leaf.len()) })
+pub fn leaf_of_file(set: &[u64; SET_SIZE], contents: &[u8], leaf: &mut [u64]) -> Result<(), Refusal> {
+    // SAFETY: the set is whole, each other pointer comes with its slice's length, and the slice that is written is borrowed alone.
+    done(unsafe {
+        sys::opening_tree_leaf_of_file(set.as_ptr(), contents.as_ptr(), contents.len(), leaf.as_mut_ptr(), leaf.len())
+    })
 }
 
 /// The flat list of records, seven numbers each.
@@ -376,7 +441,7 @@ mod tests {
 
     #[test]
     fn numbers_without_a_meaning_are_taken_for_nothing() {
-        for number in 18..=u8::MAX {
+        for number in 19..=u8::MAX {
             assert!(std::panic::catch_unwind(|| done(number)).is_err(), "{number}");
             if number != REJECTED {
                 assert!(std::panic::catch_unwind(|| verdict(number)).is_err(), "{number}");
@@ -398,15 +463,19 @@ mod tests {
         constants: &[0; 8],
     };
 
+    fn small() -> [u64; SET_SIZE] {
+        validate(&SMALL).expect("accepted")
+    }
+
     /// The numbers beside the slices are left alone too by a call that is refused.
     #[test]
     fn a_refusal_leaves_the_numbers_that_are_written() {
-        let set = SMALL;
+        let set = small();
         let mut kept = KEPT;
         let number = &mut kept as *mut u64;
         let mut store = [0; 6];
         let (mut first_row, mut second_row) = ([0; 4], [0; 4]);
-        // SAFETY: every count is that of the array before it, and what is written overlaps nothing.
+        // SAFETY: the set is whole, every count is that of the array before it, and what is written overlaps nothing.
         let returned = unsafe {
             [
                 sys::opening_tree_sum(P, 0, number),
@@ -415,12 +484,11 @@ mod tests {
                 sys::opening_tree_power(P, 1, number),
                 sys::opening_tree_inverse(0, number),
                 sys::opening_tree_seventh_root(P, number),
-                call!(opening_tree_replace, set, store.as_mut_ptr(), 6, 2, [1, 1].as_ptr(), 2, number),
-                call!(opening_tree_push_numbers, set, store.as_mut_ptr(), 6, [2, 0, 0, 0, 0, 0, 0].as_ptr(), 7, number),
-                call!(opening_tree_push_numbers, set, store.as_mut_ptr(), 6, [1; 14].as_ptr(), 14, number),
-                call!(
-                    opening_tree_extract,
-                    set,
+                sys::opening_tree_replace(set.as_ptr(), store.as_mut_ptr(), 6, 2, [1, 1].as_ptr(), 2, number),
+                sys::opening_tree_push_numbers(set.as_ptr(), store.as_mut_ptr(), 6, [2, 0, 0, 0, 0, 0, 0].as_ptr(), 7, number),
+                sys::opening_tree_push_numbers(set.as_ptr(), store.as_mut_ptr(), 6, [1; 14].as_ptr(), 14, number),
+                sys::opening_tree_extract(
+                    set.as_ptr(),
                     [1, 1].as_ptr(),
                     2,
                     0,
@@ -436,7 +504,7 @@ mod tests {
                     4,
                     second_row.as_mut_ptr(),
                     4,
-                    number
+                    number,
                 ),
             ]
         };
@@ -444,8 +512,54 @@ mod tests {
         assert_eq!(kept, KEPT);
     }
 
+    /// The small set with one number another.
+    fn altered(place: usize, number: u64) -> [u64; SET_SIZE] {
+        let mut set = small();
+        set[place] = number;
+        set
+    }
+
+    /// A set for each number that a set is refused with, in order.
+    fn refused_sets() -> [([u64; SET_SIZE], u8); 10] {
+        let mut two_zeros = altered(5, 0);
+        two_zeros[6] = 0;
+        let mut singular = small();
+        singular[5..9].fill(P - 4);
+        [
+            (altered(0, 5), 1),
+            (altered(1, 4), 2),
+            (altered(3, 3), 3),
+            (altered(4, 65), 4),
+            (altered(2, 33), 5),
+            (altered(17, P), 7),
+            (two_zeros, 8),
+            (singular, 9),
+            (altered(225, 2), 18),
+            (altered(237, 0), 18),
+        ]
+    }
+
     #[test]
     fn a_refusal_leaves_the_sizes() {
+        for (set, refusal) in refused_sets() {
+            let mut kept = [KEPT, KEPT + 1, KEPT + 2];
+            let [leaves, store, opening] = &mut kept;
+            // SAFETY: the set is whole, and the three numbers that are written are borrowed alone.
+            let number = unsafe { sys::opening_tree_sizes(set.as_ptr(), leaves, store, opening) };
+            assert_eq!((number, kept), (refusal, [KEPT, KEPT + 1, KEPT + 2]));
+        }
+    }
+
+    /// The number that is returned, after which the array for the set is as it was.
+    fn number_of_no_set(call: impl FnOnce(*mut u64) -> u8) -> u8 {
+        let mut kept = [KEPT; SET_SIZE];
+        let number = call(kept.as_mut_ptr());
+        assert_eq!(kept, [KEPT; SET_SIZE]);
+        number
+    }
+
+    #[test]
+    fn a_refusal_leaves_the_set_of_a_validation() {
         let sets = [
             SetNumbers { width: 5, ..SMALL },
             SetNumbers { node_size: 4, ..SMALL },
@@ -457,12 +571,48 @@ mod tests {
             SetNumbers { diagonal: &[0, 2, 0, 4], ..SMALL },
             SetNumbers { diagonal: &[P - 4; 4], ..SMALL },
         ];
-        for (set, refusal) in sets.into_iter().zip(1..) {
-            let mut kept = [KEPT, KEPT + 1, KEPT + 2];
-            let [leaves, store, opening] = &mut kept;
-            // SAFETY: each pointer comes with its slice's length, and the three numbers that are written are borrowed alone.
-            let number = unsafe { call!(opening_tree_sizes, set, leaves, store, opening) };
-            assert_eq!((number, kept), (refusal, [KEPT, KEPT + 1, KEPT + 2]));
+        for (SetNumbers { width, node_size, height, full_rounds, partial_rounds, diagonal, constants }, refusal) in
+            sets.into_iter().zip(1..)
+        {
+            // SAFETY: each pointer comes with its slice's length, and the array for the set is whole and borrowed alone.
+            let number = number_of_no_set(|set| unsafe {
+                sys::opening_tree_validate(
+                    width,
+                    node_size,
+                    height,
+                    full_rounds,
+                    partial_rounds,
+                    diagonal.as_ptr(),
+                    diagonal.len(),
+                    constants.as_ptr(),
+                    constants.len(),
+                    set,
+                )
+            });
+            assert_eq!(number, refusal);
         }
+    }
+
+    #[test]
+    fn a_refusal_leaves_the_set_of_an_exchange() {
+        // SAFETY: the set is whole, the diagonal's pointer comes with its slice's length, and the array for the exchanged set is whole and
+        // borrowed alone.
+        let diagonal = |set: &[u64; SET_SIZE], diagonal: &[u64]| {
+            number_of_no_set(|exchanged| unsafe {
+                sys::opening_tree_exchange_diagonal(set.as_ptr(), diagonal.as_ptr(), diagonal.len(), exchanged)
+            })
+        };
+        // SAFETY: the same, without a diagonal.
+        let height = |set: &[u64; SET_SIZE], height: u64| {
+            number_of_no_set(|exchanged| unsafe { sys::opening_tree_exchange_height(set.as_ptr(), height, exchanged) })
+        };
+        for (set, refusal) in refused_sets() {
+            assert_eq!([diagonal(&set, SMALL.diagonal), diagonal(&set, &[])], [refusal; 2]);
+            assert_eq!([height(&set, 1), height(&set, 33)], [refusal; 2]);
+        }
+        for (words, refusal) in [(&[P; 3][..], 6), (&[1, 2, P, 4], 7), (&[0, 2, 0, 4], 8), (&[P - 4; 4], 9)] {
+            assert_eq!(diagonal(&small(), words), refusal);
+        }
+        assert_eq!(height(&small(), 33), 5);
     }
 }

@@ -19,8 +19,9 @@
 //! verification is `Ok` for an opening that is accepted and for nothing else: one that is rejected or refused is an error,
 //! [`NotAccepted`].
 //!
-//! The types here are for numbers that are kept together; [`entries`] has the library's twenty-one functions over plain slices,
-//! for buffers of one's own. [`field`] is the arithmetic.
+//! The types here are for numbers that are kept together; [`entries`] has the library's twenty-three functions over plain slices,
+//! for sets and buffers of one's own. A [`ParameterSet`] is validated, and keeps the inverses that the inverse permutation uses, so
+//! that this inverts nothing. [`field`] is the arithmetic.
 //!
 //! Choosing a safe set is the caller's part. [`published`] has the Poseidon2 authors' instances to start from.
 
@@ -42,7 +43,7 @@ mod sys;
 mod tree;
 mod verdict;
 
-pub use entries::{SetNumbers, Sizes};
+pub use entries::{SetNumbers, Sizes, SET_SIZE};
 pub use opening::{Collision, Offer, Opening, Root};
 pub use record::Record;
 pub use refusal::Refusal;

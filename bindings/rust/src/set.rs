@@ -1,11 +1,13 @@
 //! Parameter sets that are validated, and what needs no tree.
 
-use crate::entries::{self, SetNumbers, Sizes};
+use std::fmt;
+
+use crate::entries::{self, SetNumbers, Sizes, SET_SIZE};
 use crate::opening::{Collision, Offer, Opening, Root};
 use crate::refusal::Refusal;
 use crate::verdict::NotAccepted;
 
-/// A parameter set that is validated.
+/// A parameter set that is validated, and keeps what the inverse permutation would have to invert: the inverses of D.
 ///
 /// ```
 /// use opening_tree::{published, ParameterSet, Refusal, SetNumbers};
@@ -19,87 +21,142 @@ use crate::verdict::NotAccepted;
 /// assert_eq!(ParameterSet::new(taller), Err(Refusal::BadHeight));
 /// # Ok::<(), Refusal>(())
 /// ```
-#[derive(Clone, Debug, PartialEq, Eq, Hash)]
-pub struct ParameterSet {
-    width: u64,
-    node_size: u64,
-    height: u64,
-    full_rounds: u64,
-    partial_rounds: u64,
-    diagonal: Vec<u64>,
-    constants: Vec<u64>,
-    /// As the library gave them for these numbers.
-    sizes: Sizes,
+#[derive(Clone, PartialEq, Eq, Hash)]
+pub struct ParameterSet([u64; SET_SIZE]);
+
+/// The numbers that the set was made of, which are all that there is to it.
+impl fmt::Debug for ParameterSet {
+    fn fmt(&self, f: &mut fmt::Formatter<'_>) -> fmt::Result {
+        f.debug_tuple("ParameterSet").field(&self.numbers()).finish()
+    }
 }
+
+/// Where the lists and the kept values stand in the array.
+const DIAGONAL: usize = 5;
+const CONSTANTS: usize = 17;
+const INVERSES: usize = 225;
+const TOTAL_INVERSE: usize = 237;
 
 impl ParameterSet {
     /// The set of these numbers, if it is not refused. Refusals 1 to 9.
     pub fn new(numbers: SetNumbers) -> Result<ParameterSet, Refusal> {
-        // This validates the set.
-        let sizes = entries::sizes(&numbers)?;
-        Ok(ParameterSet {
-            width: numbers.width,
-            node_size: numbers.node_size,
-            height: numbers.height,
-            full_rounds: numbers.full_rounds,
-            partial_rounds: numbers.partial_rounds,
-            diagonal: numbers.diagonal.to_vec(),
-            constants: numbers.constants.to_vec(),
-            sizes,
-        })
+        entries::validate(&numbers).map(ParameterSet)
+    }
+
+    /// The set with another D. Refusal 6 for a D that is not of t numbers, and 7 to 9 for its words.
+    ///
+    /// ```
+    /// use opening_tree::{published, Refusal};
+    ///
+    /// let set = published::width_8(4, 1)?;
+    /// let other = set.exchange_diagonal(&[0, 1, 2, 3, 4, 5, 6, 7])?;
+    /// assert_eq!(other.numbers().diagonal, [0, 1, 2, 3, 4, 5, 6, 7]);
+    /// assert_eq!(other.exchange_diagonal(set.numbers().diagonal)?, set);
+    /// assert_eq!(set.exchange_diagonal(&[1, 2, 3]), Err(Refusal::BadListLength));
+    /// # Ok::<(), Refusal>(())
+    /// ```
+    pub fn exchange_diagonal(&self, diagonal: &[u64]) -> Result<ParameterSet, Refusal> {
+        entries::exchange_diagonal(&self.0, diagonal).map(ParameterSet)
+    }
+
+    /// The set with another h. Refusal 5.
+    ///
+    /// ```
+    /// use opening_tree::{published, Refusal};
+    ///
+    /// let set = published::width_12(4, 2)?;
+    /// assert_eq!(set.exchange_height(20)?.places(), 3486784401);
+    /// assert_eq!(set.exchange_height(21), Err(Refusal::BadHeight));
+    /// # Ok::<(), Refusal>(())
+    /// ```
+    pub fn exchange_height(&self, height: u64) -> Result<ParameterSet, Refusal> {
+        entries::exchange_height(&self.0, height).map(ParameterSet)
+    }
+
+    /// The array that the functions of [`entries`] take.
+    pub fn array(&self) -> &[u64; SET_SIZE] {
+        &self.0
     }
 
     /// The numbers that the set was made of.
     pub fn numbers(&self) -> SetNumbers<'_> {
+        let [width, node_size, height, full_rounds, partial_rounds, ..] = self.0;
         SetNumbers {
-            width: self.width,
-            node_size: self.node_size,
-            height: self.height,
-            full_rounds: self.full_rounds,
-            partial_rounds: self.partial_rounds,
-            diagonal: &self.diagonal,
-            constants: &self.constants,
+            width,
+            node_size,
+            height,
+            full_rounds,
+            partial_rounds,
+            diagonal: &self.0[DIAGONAL..][..size(width)],
+            constants: &self.0[CONSTANTS..][..size(width * full_rounds + partial_rounds)],
         }
+    }
+
+    /// The inverse of each word of D, and 0 for a 0: t words, which are kept so that [`unpermute`](ParameterSet::unpermute) inverts nothing.
+    ///
+    /// ```
+    /// use opening_tree::{field, published, Refusal};
+    ///
+    /// let set = published::width_8(4, 1)?;
+    /// let mut sum = 1;
+    /// for (&word, &inverse) in set.numbers().diagonal.iter().zip(set.inverses()) {
+    ///     assert_eq!(field::product(word, inverse)?, 1);
+    ///     sum = field::sum(sum, inverse)?;
+    /// }
+    /// assert_eq!(field::product(sum, set.total_inverse())?, 1);
+    /// # Ok::<(), Refusal>(())
+    /// ```
+    pub fn inverses(&self) -> &[u64] {
+        &self.0[INVERSES..][..self.width()]
+    }
+
+    /// The inverse of 1 plus the sum of the [`inverses`](ParameterSet::inverses), and 0 where D has a 0. It is kept for the same.
+    pub fn total_inverse(&self) -> u64 {
+        self.0[TOTAL_INVERSE]
     }
 
     /// t, the words of a state and of a row of nodes.
     pub fn width(&self) -> usize {
-        size(self.width)
+        size(self.numbers().width)
     }
 
     /// l, the words of a node: of a leaf and of a root.
     pub fn node_size(&self) -> usize {
-        size(self.node_size)
+        size(self.numbers().node_size)
     }
 
     /// h, the levels above the leaves.
     pub fn height(&self) -> u64 {
-        self.height
+        self.numbers().height
     }
 
     /// k, the nodes of a row.
     pub fn arity(&self) -> u64 {
-        self.width / self.node_size
+        self.numbers().width / self.numbers().node_size
     }
 
     /// k^h, the number of leaves.
     pub fn places(&self) -> u64 {
-        self.sizes.leaves / self.node_size
+        self.sizes().leaves / self.numbers().node_size
+    }
+
+    fn sizes(&self) -> Sizes {
+        entries::sizes(&self.0).expect("a set that is validated is never refused")
     }
 
     /// The words of all leaves.
     pub fn leaf_words(&self) -> usize {
-        size(self.sizes.leaves)
+        size(self.sizes().leaves)
     }
 
     /// The words of a store: every node of every level.
     pub fn store_words(&self) -> usize {
-        size(self.sizes.store)
+        size(self.sizes().store)
     }
 
     /// The words of an opening: the siblings of every level.
     pub fn opening_words(&self) -> usize {
-        size(self.sizes.opening)
+        size(self.sizes().opening)
     }
 
     /// The words of an opening at one level.
@@ -119,25 +176,25 @@ impl ParameterSet {
     /// # Ok::<(), opening_tree::Refusal>(())
     /// ```
     pub fn permute(&self, state: &mut [u64]) -> Result<(), Refusal> {
-        entries::permute(&self.numbers(), state)
+        entries::permute(&self.0, state)
     }
 
-    /// The words whose permutation is given, in place. Refusals 10 and 12.
+    /// The words whose permutation is given, in place, by the inverses that the set keeps. Refusals 10 and 12.
     pub fn unpermute(&self, state: &mut [u64]) -> Result<(), Refusal> {
-        entries::unpermute(&self.numbers(), state)
+        entries::unpermute(&self.0, state)
     }
 
     /// The compression of a row of t words: a node of l. Refusals 10 and 12.
     pub fn compress(&self, row: &[u64]) -> Result<Vec<u64>, Refusal> {
         let mut node = vec![0; self.node_size()];
-        entries::compress(&self.numbers(), row, &mut node)?;
+        entries::compress(&self.0, row, &mut node)?;
         Ok(node)
     }
 
     /// The root of the leaves, without a store. Refusals 10 and 12.
     pub fn storeless_root(&self, leaves: &[u64]) -> Result<Root, Refusal> {
         let mut node = vec![0; self.node_size()];
-        entries::storeless_root(&self.numbers(), leaves, &mut node)?;
+        entries::storeless_root(&self.0, leaves, &mut node)?;
         Ok(Root::from(node))
     }
 
@@ -164,7 +221,7 @@ impl ParameterSet {
     /// ```
     #[must_use = "only `Ok` says that the leaf stood at the place"]
     pub fn verify(&self, root: &Root, leaf: &[u64], opening: &Opening) -> Result<(), NotAccepted> {
-        entries::verify(&self.numbers(), root.words(), opening.place, leaf, &opening.siblings).into_result()
+        entries::verify(&self.0, root.words(), opening.place, leaf, &opening.siblings).into_result()
     }
 
     /// The siblings of one level, k - 1 nodes. No number of another level is looked at. Refusals 10, 11 for a level not below h, and 12.
@@ -179,7 +236,7 @@ impl ParameterSet {
     /// ```
     pub fn read_level(&self, opening: &Opening, level: u64) -> Result<Vec<u64>, Refusal> {
         let mut part = vec![0; self.part_words()];
-        entries::read_level(&self.numbers(), &opening.siblings, level, &mut part)?;
+        entries::read_level(&self.0, &opening.siblings, level, &mut part)?;
         Ok(part)
     }
 
@@ -189,7 +246,7 @@ impl ParameterSet {
         let mut first_row = vec![0; self.width()];
         let mut second_row = vec![0; self.width()];
         let level = entries::extract(
-            &self.numbers(),
+            &self.0,
             root.words(),
             place,
             first.leaf,
@@ -243,7 +300,7 @@ impl ParameterSet {
     /// # Ok::<(), Refusal>(())
     /// ```
     pub fn write_leaf_of_file(&self, contents: &[u8], leaf: &mut [u64]) -> Result<(), Refusal> {
-        entries::leaf_of_file(&self.numbers(), contents, leaf)
+        entries::leaf_of_file(&self.0, contents, leaf)
     }
 }
 

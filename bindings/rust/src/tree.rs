@@ -36,7 +36,7 @@ impl Tree {
             return Err(Refusal::BadLength);
         }
         let mut store = vec![0; set.store_words()];
-        entries::build(&set.numbers(), leaves, &mut store)?;
+        entries::build(set.array(), leaves, &mut store)?;
         Ok(Tree { set: set.clone(), store })
     }
 
@@ -64,26 +64,26 @@ impl Tree {
     /// The root.
     pub fn root(&self) -> Root {
         let mut node = vec![0; self.set.node_size()];
-        entries::root(&self.set.numbers(), &self.store, &mut node).expect("a tree's own store is never refused");
+        entries::root(self.set.array(), &self.store, &mut node).expect("a tree's own store is never refused");
         Root::from(node)
     }
 
     /// The opening of a place. Refusal 11.
     pub fn open(&self, place: u64) -> Result<Opening, Refusal> {
         let mut siblings = vec![0; self.set.opening_words()];
-        entries::open(&self.set.numbers(), &self.store, place, &mut siblings)?;
+        entries::open(self.set.array(), &self.store, place, &mut siblings)?;
         Ok(Opening { place, siblings })
     }
 
     /// Puts a leaf at a place, and answers the compressions made, h. Refusals 10 to 12.
     pub fn replace(&mut self, place: u64, leaf: &[u64]) -> Result<u64, Refusal> {
-        entries::replace(&self.set.numbers(), &mut self.store, place, leaf)
+        entries::replace(self.set.array(), &mut self.store, place, leaf)
     }
 
     /// Makes the replacements, all or none, and answers the compressions made: the number of different nodes above the places, at most h
     /// for each record. The tree is the one that the replacements leave if each is made singly. Refusals 10 to 12, and 17 for records of
     /// which two have the same place.
     pub fn push(&mut self, records: &[Record]) -> Result<u64, Refusal> {
-        entries::push(&self.set.numbers(), &mut self.store, records)
+        entries::push(self.set.array(), &mut self.store, records)
     }
 }

@@ -9,7 +9,7 @@ use std::collections::BTreeMap;
 use model::field::{add, inverse};
 use model::set::Set;
 use opening_tree::{entries, ParameterSet, Refusal};
-use support::calls::numbers;
+use support::calls::{kept, numbers};
 use support::reference::{printed, Input};
 
 const STATE_PLACES: usize = 16;
@@ -62,19 +62,17 @@ impl Kind {
 /// The answer of a set that is refused, by every function here, each of which leaves the state.
 fn compare_refused(set: &Set, state: &[u64], number: u8) {
     let refused = Err(Refusal::from_number(number).expect("a refusal"));
-    assert_eq!(entries::validate(&numbers(set)), refused, "{set:?}");
     assert_eq!(ParameterSet::new(numbers(set)).map(|_| ()), refused, "{set:?}");
     for entry in [entries::permute, entries::unpermute] {
         let mut kept = state.to_vec();
-        assert_eq!(entry(&numbers(set), &mut kept), refused, "{set:?}");
+        assert_eq!(entry(&set.array(), &mut kept), refused, "{set:?}");
         assert_eq!(kept, state, "{set:?}");
     }
 }
 
 /// The state permuted and the state that it is the permutation of, from which the library comes back to it.
 fn compare_done(set: &Set, state: &[u64], [permuted, unpermuted]: [Vec<u64>; 2]) {
-    assert_eq!(entries::validate(&numbers(set)), Ok(()), "{set:?}");
-    let kept = ParameterSet::new(numbers(set)).expect("accepted");
+    let kept = kept(set);
     let (mut after, mut before) = (state.to_vec(), state.to_vec());
     assert_eq!((kept.permute(&mut after), &after), (Ok(()), &permuted), "{state:?} under {set:?}");
     assert_eq!((kept.unpermute(&mut before), &before), (Ok(()), &unpermuted), "{state:?} under {set:?}");
@@ -92,14 +90,14 @@ fn the_reference_takes_the_same_diagonals() {
     let (mut kinds, mut places) = (BTreeMap::new(), BTreeMap::new());
     for _ in 0..input.number() {
         let (set, state) = (input.set(), input.list(STATE_PLACES));
-        let kind = Kind::of(&set.diagonal);
+        let kind = Kind::of(set.used_diagonal());
         *kinds.entry((set.width, kind.zeros.len().min(3), kind.cancels)).or_insert(0) += 1;
         if let [place] = kind.zeros[..] {
             *places.entry((set.width, place)).or_insert(0) += 1;
         }
         let wanted = read(&set, lines.next().expect("a line for each set"));
         assert_eq!(wanted.as_ref().err().copied(), kind.refusal(), "{set:?}");
-        assert_eq!(wanted.as_ref().err().copied(), model::entries::validate(&set).err(), "{set:?}");
+        assert_eq!(wanted.as_ref().err().copied(), model::set::check_set(&set).err(), "{set:?}");
         match wanted {
             Ok(words) => compare_done(&set, &state, words),
             Err(number) => compare_refused(&set, &state, number),

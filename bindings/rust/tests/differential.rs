@@ -3,13 +3,13 @@
 mod model;
 mod support;
 
-use model::field::P;
-use model::set::Set;
-use opening_tree::{ParameterSet, Record};
-use support::calls::{numbers, Answer, Call, Entry};
-use support::cases::{call, greatest_height, nodes_above, places_under, records, set_for, set_of, SHAPES};
+use model::field::{inverse, subtract, P};
+use model::set::{Set, DIAGONAL_PLACES};
+use opening_tree::Record;
+use support::calls::{kept, Answer, Call, Entry};
+use support::cases::{call, greatest_height, nodes_above, places_under, records, set_for, set_of, with_diagonal, SHAPES};
 use support::collisions::{collision, Collision, Kind};
-use support::damage::{cancelling_word, damage, EDGES};
+use support::damage::{cancelling_word, damage, others, EDGES};
 use support::generator::Generator;
 use support::tally::Tally;
 
@@ -26,6 +26,7 @@ fn library_answers_as_the_model() {
     heights(generator, tally);
     edges_of_sets(generator, tally);
     zeros_of_sets(generator, tally);
+    kept_values_of_sets(generator, tally);
     edges_of_calls(generator, tally);
     let [at_edges, _] = tally.pushes();
     long_pushes(generator, tally);
@@ -62,7 +63,7 @@ fn heights(generator: &mut Generator, tally: &mut Tally) {
         let greatest = greatest_height(shape.0, shape.1);
         for height in 0..=greatest {
             let set = set_of(generator, shape, height, 2, 1);
-            let kept = ParameterSet::new(numbers(&set)).expect("accepted");
+            let kept = kept(&set);
             let words = [kept.leaf_words(), kept.store_words(), kept.opening_words()].map(|words| words as u64);
             assert_eq!(kept.places() as u128, set.places());
             assert_eq!(tally.compare(Call::sizes(set)), Answer::Sizes(words));
@@ -72,19 +73,22 @@ fn heights(generator: &mut Generator, tally: &mut Tally) {
     }
 }
 
-/// Every place of both lists of a set, with each number at the edge of being a word.
+/// Every place of D, and of C those that a set uses and those next to them, with each number at the edge of being a word; after a change
+/// of D with the values that were kept, and with those of the new D.
 fn edges_of_sets(generator: &mut Generator, tally: &mut Tally) {
     for shape in [(4, 2), (8, 4), (12, 3)] {
-        for entry in Entry::ALL.into_iter().filter(|entry| !entry.is_of_field()) {
+        for entry in Entry::with_set() {
             let set = set_of(generator, shape, 1, 2, 3);
             let call = done_call(generator, entry, set);
             for edge in EDGES.into_iter().chain([0]) {
-                for i in 0..call.set.diagonal.len() {
+                for i in 0..DIAGONAL_PLACES {
                     let mut call = call.clone();
                     call.set.diagonal[i] = edge;
+                    tally.compare(call.clone());
+                    call.set.keep();
                     tally.compare(call);
                 }
-                for i in 0..call.set.constants.len() {
+                for i in 0..call.set.used_constants().len() + 2 {
                     let mut call = call.clone();
                     call.set.constants[i] = edge;
                     tally.compare(call);
@@ -99,29 +103,114 @@ fn edges_of_sets(generator: &mut Generator, tally: &mut Tally) {
 fn zeros_of_sets(generator: &mut Generator, tally: &mut Tally) {
     for shape in [(4, 1), (8, 2), (12, 6)] {
         for entry in Entry::ALL.into_iter().filter(|entry| !entry.is_of_field()) {
-            let mut set = set_of(generator, shape, 1, 2, 3);
-            set.diagonal.fill_with(|| generator.non_zero_word());
+            let words: Vec<u64> = (0..shape.0).map(|_| generator.non_zero_word()).collect();
+            let set = with_diagonal(set_of(generator, shape, 1, 2, 3), &words);
             let call = done_call(generator, entry, set);
-            let mut answer = |diagonal: &[u64]| {
-                let set = Set { diagonal: diagonal.to_vec(), ..call.set.clone() };
-                tally.compare(Call { set, ..call.clone() })
-            };
-            for i in 0..call.set.diagonal.len() {
-                let mut diagonal = call.set.diagonal.clone();
+            let mut answer = |diagonal: &[u64]| tally.compare(call.with_diagonal(diagonal));
+            let is_of_set = |answer: Answer| matches!(answer, Answer::Refused(1..=9 | 18));
+            for i in 0..words.len() {
+                let mut diagonal = words.clone();
                 diagonal[i] = cancelling_word(&diagonal, i).expect("drawn words don't cancel");
                 assert_eq!(answer(&diagonal), Answer::Refused(9), "{diagonal:?}");
                 diagonal[i] = 0;
-                assert!(!matches!(answer(&diagonal), Answer::Refused(1..=9)), "{diagonal:?}");
+                assert!(!is_of_set(answer(&diagonal)), "{diagonal:?}");
                 let mut beside = diagonal.clone();
                 let other = (i + 1) % beside.len();
                 beside[other] = cancelling_word(&beside, other).expect("drawn words don't cancel");
-                assert!(!matches!(answer(&beside), Answer::Refused(1..=9)), "{beside:?}");
+                assert!(!is_of_set(answer(&beside)), "{beside:?}");
                 for j in 0..i {
                     diagonal[j] = 0;
                     assert_eq!(answer(&diagonal), Answer::Refused(8), "{diagonal:?}");
-                    diagonal[j] = call.set.diagonal[j];
+                    diagonal[j] = words[j];
                 }
             }
+        }
+    }
+}
+
+/// Diagonals of t words: drawn ones; ones whose inverses are small or close to p, and add up to 0, so that the inverse of 1 plus their sum is
+/// 1; and these with a zero, at the first place and at another.
+fn diagonals(generator: &mut Generator, t: usize) -> [Vec<u64>; 4] {
+    let drawn = (0..t).map(|_| generator.non_zero_word()).collect();
+    let balanced: Vec<u64> = (1..).flat_map(|n| [inverse(n), subtract(0, inverse(n))]).take(t).collect();
+    let [mut first, mut other] = [balanced.clone(), balanced.clone()];
+    first[0] = 0;
+    other[1 + generator.below(t - 1)] = 0;
+    [drawn, balanced, first, other]
+}
+
+/// Each kept value changed in turn is refused with 18, whatever else the function is handed, but beyond the words of D it changes nothing.
+/// What D is refused with comes first, whatever values are kept.
+fn kept_values_of_sets(generator: &mut Generator, tally: &mut Tally) {
+    for shape in [(4, 2), (8, 4), (12, 3)] {
+        for entry in Entry::with_set() {
+            for diagonal in diagonals(generator, shape.0 as usize) {
+                let set = with_diagonal(set_of(generator, shape, 1, 2, 3), &diagonal);
+                let call = done_call(generator, entry, set);
+                let answer = tally.compare(call.clone());
+                each_kept_value(&call, &answer, tally);
+                refused_before_kept_values(generator, &call, tally);
+            }
+        }
+    }
+}
+
+/// The call with arguments beside its set that do not fit.
+fn unfit(call: &Call) -> Call {
+    let mut call = call.clone();
+    call.buffers.iter_mut().for_each(|buffer| buffer.push(P));
+    call.numbers.fill(u64::MAX);
+    call
+}
+
+/// Of a call that the set does not refuse.
+fn each_kept_value(call: &Call, answer: &Answer, tally: &mut Tally) {
+    let words = call.diagonal().len();
+    let mut is_wrong = |set: Set| {
+        let call = Call { set, ..call.clone() };
+        assert_eq!(tally.compare(unfit(&call)), Answer::Refused(18), "{call:?}");
+        assert_eq!(tally.compare(call), Answer::Refused(18));
+    };
+    for i in 0..words {
+        for other in others(call.set.inverses[i]) {
+            let mut set = call.set.clone();
+            set.inverses[i] = other;
+            is_wrong(set);
+        }
+    }
+    for total_inverse in others(call.set.total_inverse) {
+        is_wrong(Set { total_inverse, ..call.set.clone() });
+    }
+    for i in words..DIAGONAL_PLACES {
+        for other in others(call.set.inverses[i]) {
+            let mut call = call.clone();
+            call.set.inverses[i] = other;
+            assert_eq!(tally.compare(call), *answer);
+        }
+    }
+}
+
+/// A D that is refused with 7, 8 or 9, with the values that were kept, with those that would be kept, and with any.
+fn refused_before_kept_values(generator: &mut Generator, call: &Call, tally: &mut Tally) {
+    let words = call.diagonal().len();
+    let mut no_word = call.diagonal().to_vec();
+    no_word[generator.below(words)] = P;
+    let mut two_zeros = call.diagonal().to_vec();
+    two_zeros[..2].fill(0);
+    let mut cancelling: Vec<u64> = (0..words).map(|_| generator.non_zero_word()).collect();
+    cancelling[0] = cancelling_word(&cancelling, 0).expect("drawn words don't cancel");
+    for (diagonal, number) in [(no_word, 7), (two_zeros, 8), (cancelling, 9)] {
+        let would_be = Call { set: with_diagonal(call.set.clone(), &diagonal), ..call.clone() };
+        let mut were = would_be.clone();
+        (were.set.inverses, were.set.total_inverse) = (call.set.inverses, call.set.total_inverse);
+        let mut any = would_be.clone();
+        any.set.inverses.copy_from_slice(&generator.junk(DIAGONAL_PLACES));
+        any.set.total_inverse = generator.number();
+        let mut zeros = would_be.clone();
+        (zeros.set.inverses, zeros.set.total_inverse) = ([0; DIAGONAL_PLACES], 0);
+        for call in [would_be, were, any, zeros] {
+            assert_eq!(tally.compare(unfit(&call)), Answer::Refused(number), "{call:?}");
+            assert_eq!(tally.compare(call), Answer::Refused(number));
         }
     }
 }
@@ -130,7 +219,7 @@ fn zeros_of_sets(generator: &mut Generator, tally: &mut Tally) {
 fn edges_of_calls(generator: &mut Generator, tally: &mut Tally) {
     for shape in SHAPES {
         for height in 0..=2 {
-            for entry in Entry::ALL.into_iter().filter(|&entry| !matches!(entry, Entry::Validate | Entry::Sizes)) {
+            for entry in Entry::ALL.into_iter().filter(|&entry| entry != Entry::Sizes) {
                 let set = set_of(generator, shape, height, 2, 1);
                 edges_of_call(&done_call(generator, entry, set), tally);
             }
@@ -185,7 +274,11 @@ fn lengths_at_edges(call: &Call, tally: &mut Tally) {
 }
 
 fn places_at_edges(call: &Call, tally: &mut Tally) {
-    let bound = if call.entry == Entry::ReadLevel { call.set.height } else { call.set.places() as u64 };
+    let bound = match call.entry {
+        Entry::ReadLevel => call.set.height,
+        Entry::ExchangeHeight => 1 + greatest_height(call.set.width, call.set.node_size),
+        _ => call.set.places() as u64,
+    };
     for i in 0..call.numbers.len() {
         for number in [0, bound.wrapping_sub(1), bound, bound + 1].into_iter().chain(EDGES) {
             let mut call = call.clone();

@@ -7,8 +7,8 @@ use std::fmt::Write;
 
 use model::field::P;
 use model::set::Set;
-use opening_tree::{entries, published, NotAccepted, ParameterSet, Refusal, Tree};
-use support::calls::numbers;
+use opening_tree::{entries, published, NotAccepted, Refusal, Tree};
+use support::calls::kept;
 use support::cases::{refused_sets, set_of, small, SHAPES};
 use support::generator::Generator;
 use support::mapping::Mapping;
@@ -21,16 +21,12 @@ fn block_bytes(shape: (u64, u64)) -> usize {
     7 * (shape.0 - shape.1) as usize
 }
 
-fn kept(set: &Set) -> ParameterSet {
-    ParameterSet::new(numbers(set)).expect("accepted")
-}
-
 /// The leaf of a file: the model's, and also that of each function, whatever was in the buffer.
 fn leaf_of(generator: &mut Generator, set: &Set, contents: &[u8]) -> Vec<u64> {
     let leaf = model::files::leaf(set, contents);
     let (kept, l) = (kept(set), set.node_size as usize);
     let (mut by_entry, mut written) = (generator.junk(l), generator.junk(l));
-    assert_eq!(entries::leaf_of_file(&numbers(set), contents, &mut by_entry), Ok(()));
+    assert_eq!(entries::leaf_of_file(&set.array(), contents, &mut by_entry), Ok(()));
     assert_eq!(by_entry, leaf, "{contents:?} under {set:?}");
     assert_eq!(kept.write_leaf_of_file(contents, &mut written), Ok(()));
     assert_eq!(written, leaf);
@@ -122,7 +118,7 @@ const LEAF: [u64; 2] = [P, 9];
 /// The refusal of these contents, which the model gives too, and after which the leaf is as it was.
 fn refusal(set: &Set, contents: &[u8], leaf: &[u64]) -> Refusal {
     let (mut by_library, mut by_model) = (leaf.to_vec(), leaf.to_vec());
-    let refusal = entries::leaf_of_file(&numbers(set), contents, &mut by_library).expect_err("refused");
+    let refusal = entries::leaf_of_file(&set.array(), contents, &mut by_library).expect_err("refused");
     assert_eq!(model::entries::leaf_of_file(set, contents, &mut by_model), Err(refusal.number()));
     assert_eq!((&by_library[..], &by_model[..]), (leaf, leaf));
     refusal
@@ -157,9 +153,9 @@ fn a_set_and_a_leaf_are_tested_before_the_contents() {
             assert_eq!(kept(&small()).write_leaf_of_file(contents, &mut leaf), Err(Refusal::BadLength));
             assert_eq!(leaf, vec![P; length]);
         }
-        for (set, number) in refused_sets().iter().zip(1..) {
+        for (set, number) in refused_sets() {
             for leaf in [&LEAF[..], &[], &[7; 3]] {
-                assert_eq!(refusal(set, contents, leaf).number(), number);
+                assert_eq!(refusal(&set, contents, leaf).number(), number);
             }
         }
     }
@@ -197,7 +193,7 @@ fn line(set: &Set, contents: &[u8], leaf_words: usize) -> String {
     let mut line = format!("{width} {node_size} {height} {full_rounds} {partial_rounds} bytes {} leaf_of_file ", contents.len());
     let before = vec![7; leaf_words];
     let mut leaf = before.clone();
-    let answer = entries::leaf_of_file(&numbers(set), contents, &mut leaf);
+    let answer = entries::leaf_of_file(&set.array(), contents, &mut leaf);
     let mut by_model = before.clone();
     assert_eq!(model::entries::leaf_of_file(set, contents, &mut by_model), answer.map_err(Refusal::number));
     assert_eq!(by_model, leaf);

@@ -6,8 +6,8 @@ mod support;
 use std::collections::BTreeMap;
 
 use model::field::is_word;
-use model::set::Set;
-use opening_tree::{NotAccepted, ParameterSet, Record, Refusal, SetNumbers, Tree};
+use opening_tree::{NotAccepted, Record, Refusal, Tree};
+use support::calls::kept;
 use support::cases::{nodes_above, set_of, SHAPES};
 use support::generator::Generator;
 
@@ -137,16 +137,12 @@ fn a_tree_is_that_of_its_leaves_after_any_changes() {
     for shape in SHAPES {
         for _ in 0..LISTS {
             let height = generator.below(if shape.0 / shape.1 <= 4 { 4 } else { 2 }) as u64;
-            let Set { width, node_size, height, full_rounds, partial_rounds, diagonal, constants } =
-                set_of(generator, shape, height, 4, 3);
-            let (diagonal, constants) = (&diagonal[..], &constants[..]);
-            let numbers = SetNumbers { width, node_size, height, full_rounds, partial_rounds, diagonal, constants };
-            let set = ParameterSet::new(numbers).expect("an accepted set");
+            let set = kept(&set_of(generator, shape, height, 4, 3));
             let leaves = generator.words(set.leaf_words());
             let mut tree = Tree::build(&set, &leaves).expect("words");
             let l = set.node_size();
             let leaves = leaves.chunks(l).map(<[u64]>::to_vec).collect();
-            let mut book = Book { leaves, l, arity: width / node_size, height };
+            let mut book = Book { leaves, l, arity: shape.0 / shape.1, height };
             for _ in 0..CHANGES {
                 match change(generator, &mut tree, &mut book) {
                     (records, Ok(_)) => {

@@ -13,6 +13,6 @@ fn a_push_of_over_2_to_the_32_records_is_refused() {
     let records = Mapping::of_bytes(RECORDS * 7 * 8);
     let set = published::width_8(2, 0).expect("accepted");
     let mut store = [1, 2];
-    assert_eq!(entries::push_numbers(&set.numbers(), &mut store, records.numbers()), Err(Refusal::BadLength));
+    assert_eq!(entries::push_numbers(set.array(), &mut store, records.numbers()), Err(Refusal::BadLength));
     assert_eq!(store, [1, 2]);
 }

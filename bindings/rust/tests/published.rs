@@ -3,8 +3,8 @@
 mod model;
 
 use model::field::add;
-use model::set::Set;
-use opening_tree::{published, NotAccepted, ParameterSet, Refusal, Tree};
+use model::set::{validated, Numbers, Set};
+use opening_tree::{published, NotAccepted, ParameterSet, Refusal, SetNumbers, Tree};
 
 /// A state, and its permutation.
 type Known<const T: usize> = ([u64; T], [u64; T]);
@@ -39,10 +39,10 @@ const KNOWN_12: [Known<12>; 1] = [
     ),
 ];
 
-/// The set as the model has it.
+/// The set as the model has it, which is the library's number by number.
 fn plain(set: &ParameterSet) -> Set {
     let numbers = set.numbers();
-    Set {
+    let plain = validated(&Numbers {
         width: numbers.width,
         node_size: numbers.node_size,
         height: numbers.height,
@@ -50,7 +50,10 @@ fn plain(set: &ParameterSet) -> Set {
         partial_rounds: numbers.partial_rounds,
         diagonal: numbers.diagonal.to_vec(),
         constants: numbers.constants.to_vec(),
-    }
+    })
+    .expect("accepted");
+    assert_eq!(set.array(), &plain.array());
+    plain
 }
 
 /// Library and model permute each state as it was published, and back, and compress it to the first words of the sum.
@@ -97,6 +100,22 @@ fn node_size_and_height_are_the_callers() {
     assert_eq!(published::width_8(4, 33), Err(Refusal::BadHeight));
     assert_eq!(published::width_12(4, 20).map(|set| set.places()), Ok(3486784401));
     assert_eq!(published::width_12(4, 21), Err(Refusal::BadHeight));
+}
+
+/// A published set with the height of another is that other, and so it is after its D was another.
+#[test]
+fn published_sets_exchange() {
+    let [low, high] = [published::width_12(4, 2), published::width_12(4, 20)].map(|set| set.expect("accepted"));
+    assert_eq!(low.exchange_height(20).as_ref(), Ok(&high));
+    assert_eq!(high.exchange_height(2).as_ref(), Ok(&low));
+    assert_eq!(high.exchange_height(21), Err(Refusal::BadHeight));
+    let mut diagonal = published::DIAGONAL_12;
+    diagonal[7] = 0;
+    let other = low.exchange_diagonal(&diagonal).expect("one zero");
+    assert_eq!(other.numbers(), SetNumbers { diagonal: &diagonal, ..low.numbers() });
+    assert_eq!((other.inverses()[7], other.total_inverse()), (0, 0));
+    assert_eq!(other.exchange_diagonal(&published::DIAGONAL_12), Ok(low.clone()));
+    assert_eq!(low.exchange_diagonal(&published::DIAGONAL_8), Err(Refusal::BadListLength));
 }
 
 #[test]

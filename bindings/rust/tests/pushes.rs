@@ -7,8 +7,8 @@ mod support;
 use model::field::P;
 use model::set::Set;
 use opening_tree::entries::{self, record_numbers};
-use opening_tree::{ParameterSet, Record, Refusal, Tree};
-use support::calls::numbers;
+use opening_tree::{Record, Refusal, Tree};
+use support::calls::kept;
 use support::cases::{nodes_above, places_under, refused_sets, set_of, small, SHAPES};
 use support::generator::Generator;
 use support::reference::{printed, Input};
@@ -60,16 +60,16 @@ impl Stores {
 
     /// Pushes the list in both ways, and compares both answers and both whole stores.
     fn push(&mut self, set: &Set, list: &[u64], wanted: &Wanted) {
-        let (set, records) = (&numbers(set), records(list));
+        let (array, records) = (&set.array(), records(list));
         assert_eq!(records.len(), wanted.records);
         for &(at, word) in &wanted.changes {
             assert_ne!(self.wanted[at], word, "the reference lists a number that stays");
             self.wanted[at] = word;
         }
         let places = || records.iter().map(|record| record.place).collect::<Vec<u64>>();
-        let answer = entries::push(set, &mut self.by_records, &records);
+        let answer = entries::push(array, &mut self.by_records, &records);
         assert_eq!(answer.map_err(Refusal::number), wanted.answer, "records for {:?} under {set:?}", places());
-        let answer = entries::push_numbers(set, &mut self.by_numbers, list);
+        let answer = entries::push_numbers(array, &mut self.by_numbers, list);
         assert_eq!(answer.map_err(Refusal::number), wanted.answer, "numbers for {:?} under {set:?}", places());
         for store in [&self.by_records, &self.by_numbers] {
             assert!(*store == self.wanted, "{} after {:?} under {set:?}", difference(store, &self.wanted), places());
@@ -139,8 +139,8 @@ fn the_reference_has_the_same_answers_and_stores() {
 /// The number of the refusal of a push, by records and by numbers, after which the store is as it was.
 fn refusal(set: &Set, store: &[u64], records: &[Record]) -> u8 {
     let (mut by_records, mut by_numbers) = (store.to_vec(), store.to_vec());
-    let refusal = entries::push(&numbers(set), &mut by_records, records).expect_err("refused");
-    assert_eq!(entries::push_numbers(&numbers(set), &mut by_numbers, record_numbers(records)), Err(refusal));
+    let refusal = entries::push(&set.array(), &mut by_records, records).expect_err("refused");
+    assert_eq!(entries::push_numbers(&set.array(), &mut by_numbers, record_numbers(records)), Err(refusal));
     assert_eq!((&by_records[..], &by_numbers[..]), (store, store));
     refusal.number()
 }
@@ -151,15 +151,15 @@ fn a_repeated_place_is_refused_last() {
     for count in [2, 3, 128, 129, 300] {
         let repeated = &mut vec![record; count];
         assert_eq!(refusal(&small(), &[0; 6], repeated), 17);
-        for (set, number) in refused_sets().iter().zip(1..) {
-            assert_eq!(refusal(set, &[0; 6], repeated), number);
+        for (set, number) in refused_sets() {
+            assert_eq!(refusal(&set, &[0; 6], repeated), number);
         }
         for length in [0, 5, 7] {
             assert_eq!(refusal(&small(), &vec![P; length], repeated), 10);
         }
         let mut store = [0; 6];
         let flat = &record_numbers(repeated)[..7 * count - 1];
-        assert_eq!(entries::push_numbers(&numbers(&small()), &mut store, flat), Err(Refusal::BadLength));
+        assert_eq!(entries::push_numbers(&small().array(), &mut store, flat), Err(Refusal::BadLength));
         assert_eq!(store, [0; 6]);
         // The store's numbers, then a leaf's, then a place.
         assert_eq!(refusal(&small(), &[0, 0, 0, 0, 0, P], repeated), 12);
@@ -178,7 +178,7 @@ fn trees_go_on_after_a_refused_push() {
         for height in 0..=3 {
             let set = set_of(generator, shape, height, 2, 1);
             let (places, l) = (set.places() as usize, set.node_size as usize);
-            let set = ParameterSet::new(numbers(&set)).expect("accepted");
+            let set = kept(&set);
             let mut tree = Tree::build(&set, &generator.words(set.leaf_words())).expect("words");
             for count in [1, 2, 100, 128, 129, 200] {
                 let count = count.min(places);
@@ -238,9 +238,9 @@ fn push_beside_singly(generator: &mut Generator, set: &Set, mut store: Vec<u64>,
     let records: Vec<Record> = places.iter().map(&mut record).collect();
     let mut singly = store.clone();
     for Record { place, words } in &records {
-        assert_eq!(entries::replace(&numbers(set), &mut singly, *place, &words[..l]), Ok(set.height));
+        assert_eq!(entries::replace(&set.array(), &mut singly, *place, &words[..l]), Ok(set.height));
     }
-    let answer = entries::push(&numbers(set), &mut store, &records);
+    let answer = entries::push(&set.array(), &mut store, &records);
     assert!(store == singly, "{} after {places:?} under {set:?}", difference(&store, &singly));
     answer.expect("different places")
 }
@@ -259,7 +259,7 @@ fn a_push_leaves_what_its_records_leave_singly() {
                 let mut store = generator.words(set.store_words() as usize);
                 if pushes % 2 == 0 {
                     let leaves = generator.words(set.leaf_words() as usize);
-                    entries::build(&numbers(set), &leaves, &mut store).expect("words");
+                    entries::build(&set.array(), &leaves, &mut store).expect("words");
                 }
                 let made = push_beside_singly(generator, set, store, &places);
                 assert_eq!(made, nodes_above(arity, height, &places), "{places:?} under {set:?}");

@@ -4,10 +4,12 @@ mod model;
 
 use std::error::Error;
 
+use model::set::{INVERSES, TOTAL_INVERSE};
 use opening_tree::entries;
 use opening_tree::field::{self, P};
 use opening_tree::{
     published, Collision, NotAccepted, Offer, Opening, ParameterSet, Record, Refusal, Root, SetNumbers, Sizes, Tree, Verdict,
+    SET_SIZE,
 };
 
 /// The set T: small numbers, to be worked with by hand, and not safe.
@@ -41,6 +43,14 @@ const W: SetNumbers = SetNumbers {
     constants: &[0, 0, 0, 0, P - 505316, P - 632614, 599803, P - 250748, P - 349058],
     ..U
 };
+
+/// T, whose D is not used where there are no partial rounds, with words whose inverses add up to 0.
+const BALANCED: SetNumbers = SetNumbers { diagonal: &[1, P - 1, 2, P - 2], ..T };
+
+/// The inverses of 2, 3 and 4: (p + 1) / 2, (2p + 1) / 3 and (3p + 1) / 4.
+const HALF: u64 = 9223372034707292161;
+const THIRD: u64 = 12297829379609722881;
+const QUARTER: u64 = 13835058052060938241;
 
 /// A set that was made for two leaves which are both accepted at one place, and so is not safe.
 const WEAK: SetNumbers = SetNumbers {
@@ -82,6 +92,133 @@ fn arithmetic() {
     assert_eq!(field::inverse(2), Ok(9223372034707292161));
     assert_eq!(field::seventh_root(128), Ok(2));
     assert_eq!(field::power(0, 0), Ok(1));
+}
+
+/// Of D a set keeps the inverses, and that of 1 plus their sum, which under T is 37 / 12 and under BALANCED 1.
+#[test]
+fn kept_values() {
+    for (word, inverse) in [(2, HALF), (3, THIRD), (4, QUARTER), (P - 3, (P - 1) / 3), (P - 2, P - HALF)] {
+        assert_eq!(word as u128 * inverse as u128 % P as u128, 1);
+    }
+    assert_eq!(set(T).inverses(), [1, HALF, THIRD, QUARTER]);
+    assert_eq!(set(T).total_inverse() as u128 * 37 % P as u128, 12);
+    assert_eq!((set(V).inverses(), set(V).total_inverse()), (&[0, 1, HALF, THIRD][..], 0));
+    let third = (P - 1) / 3;
+    assert_eq!((set(W).inverses(), set(W).total_inverse()), (&[0, third, third, third][..], 0));
+    assert_eq!((set(BALANCED).inverses(), set(BALANCED).total_inverse()), (&[1, P - 1, HALF, P - HALF][..], 1));
+}
+
+#[test]
+fn places_of_a_set() {
+    for (numbers, inverses, total_inverse) in [(BALANCED, [1, P - 1, HALF, P - HALF], 1), (V, [0, 1, HALF, THIRD], 0)] {
+        let array = entries::validate(&numbers).expect("accepted");
+        let mut places = [0; SET_SIZE];
+        places[..5].copy_from_slice(&[4, 2, 1, 2, numbers.partial_rounds]);
+        places[5..9].copy_from_slice(numbers.diagonal);
+        places[17..17 + numbers.constants.len()].copy_from_slice(numbers.constants);
+        places[INVERSES..INVERSES + 4].copy_from_slice(&inverses);
+        places[TOTAL_INVERSE] = total_inverse;
+        assert_eq!(array, places);
+        assert_eq!(set(numbers).array(), &array);
+        assert_eq!(set(numbers).numbers(), numbers);
+    }
+}
+
+/// What becomes of (5, 4, 1, 1) under an array in which some places are others: the state that permutes to it, or a refusal.
+fn unpermuted(numbers: SetNumbers, changes: &[(usize, u64)]) -> Result<[u64; 4], Refusal> {
+    let mut array = *set(numbers).array();
+    changes.iter().for_each(|&(place, number)| array[place] = number);
+    let mut state = [5, 4, 1, 1];
+    let answer = entries::unpermute(&array, &mut state);
+    assert_eq!(entries::permute(&array, &mut [1, 0, 0, 0]), answer);
+    answer.map(|()| state)
+}
+
+/// p + 1 is not 1, and p is not 0; and beyond the words of D anything is taken.
+#[test]
+fn kept_values_at_the_edge() {
+    let refused = Err(Refusal::BadKeptValues);
+    for numbers in [T, U, V, W, BALANCED] {
+        assert_eq!(unpermuted(numbers, &[]), Ok([1, 0, 0, 0]));
+        let array = *set(numbers).array();
+        for place in (INVERSES..INVERSES + 4).chain([TOTAL_INVERSE]) {
+            assert_eq!(unpermuted(numbers, &[(place, array[place] + 1)]), refused);
+            assert_eq!(unpermuted(numbers, &[(place, u64::MAX)]), refused);
+        }
+        for place in INVERSES + 4..TOTAL_INVERSE {
+            for number in [1, P - 1, P, u64::MAX] {
+                assert_eq!(unpermuted(numbers, &[(place, number)]), Ok([1, 0, 0, 0]));
+            }
+        }
+    }
+    assert_eq!(unpermuted(T, &[(INVERSES, P + 1)]), refused);
+    assert_eq!(unpermuted(BALANCED, &[(TOTAL_INVERSE, P + 1)]), refused);
+    assert_eq!(unpermuted(V, &[(INVERSES, P)]), refused);
+    assert_eq!(unpermuted(V, &[(TOTAL_INVERSE, P)]), refused);
+    assert_eq!(unpermuted(T, &[(TOTAL_INVERSE, 0)]), refused);
+    // The inverses of two words the other way round, with the same sum.
+    assert_eq!(unpermuted(T, &[(INVERSES, HALF), (INVERSES + 1, 1)]), refused);
+    // D all p - 4 is refused with 9, with any values kept.
+    let singular = [5, 6, 7, 8].map(|place| (place, P - 4));
+    assert_eq!(unpermuted(T, &singular), Err(Refusal::SingularDiagonal));
+    assert_eq!(unpermuted(T, &[&singular[..], &[(INVERSES, P), (TOTAL_INVERSE, 0)]].concat()), Err(Refusal::SingularDiagonal));
+    // Kept values are tested before the state.
+    let mut array = *set(T).array();
+    assert_eq!(entries::unpermute(&array, &mut [P; 3]), Err(Refusal::BadLength));
+    array[INVERSES] = 2;
+    assert_eq!(entries::unpermute(&array, &mut [P; 3]), Err(Refusal::BadKeptValues));
+}
+
+#[test]
+fn exchanges() {
+    for numbers in [T, V, W, BALANCED] {
+        for diagonal in [T.diagonal, V.diagonal, W.diagonal, BALANCED.diagonal] {
+            let outcome = set(SetNumbers { diagonal, ..numbers });
+            assert_eq!(set(numbers).exchange_diagonal(diagonal), Ok(outcome));
+        }
+        for height in 0..=32 {
+            let outcome = set(SetNumbers { height, ..numbers });
+            assert_eq!(set(numbers).exchange_height(height), Ok(outcome));
+        }
+        for height in [33, 64, u64::MAX] {
+            assert_eq!(set(numbers).exchange_height(height), Err(Refusal::BadHeight));
+        }
+        let refusal = |diagonal: &[u64]| set(numbers).exchange_diagonal(diagonal).err();
+        for diagonal in [&[][..], &[P; 3], &[1, 2, 3, 4, 5], &[1; 12]] {
+            assert_eq!(refusal(diagonal), Some(Refusal::BadListLength));
+        }
+        assert_eq!(refusal(&[0, P, 0, 4]), Some(Refusal::BadListWord));
+        assert_eq!(refusal(&[0, 2, 0, 4]), Some(Refusal::ZeroInDiagonal));
+        assert_eq!(refusal(&[P - 4; 4]), Some(Refusal::SingularDiagonal));
+    }
+}
+
+/// What an exchange is handed is judged before what it makes, and what it does not use does not come into it.
+#[test]
+fn sets_that_are_exchanged() {
+    let refusal = |array: &[u64; SET_SIZE], diagonal: &[u64], height: u64| {
+        let refusal = entries::exchange_diagonal(array, diagonal).expect_err("refused");
+        assert_eq!(entries::exchange_height(array, height), Err(refusal));
+        refusal
+    };
+    let with = |place: usize, number: u64| {
+        let mut array = *set(T).array();
+        array[place] = number;
+        array
+    };
+    for (diagonal, height) in [(T.diagonal, 1), (&[], 33)] {
+        assert_eq!(refusal(&with(2, 33), diagonal, height), Refusal::BadHeight);
+        assert_eq!(refusal(&with(17, P), diagonal, height), Refusal::BadListWord);
+        assert_eq!(refusal(&with(5, 0), diagonal, height), Refusal::BadKeptValues);
+        assert_eq!(refusal(&with(INVERSES + 3, 0), diagonal, height), Refusal::BadKeptValues);
+        assert_eq!(refusal(&with(TOTAL_INVERSE, 0), diagonal, height), Refusal::BadKeptValues);
+    }
+    let mut array = *set(T).array();
+    array[9..17].fill(P);
+    array[25..225].fill(u64::MAX);
+    array[INVERSES + 4..TOTAL_INVERSE].fill(1);
+    assert_eq!(entries::exchange_diagonal(&array, BALANCED.diagonal).as_ref(), Ok(set(BALANCED).array()));
+    assert_eq!(entries::exchange_height(&array, 1).as_ref(), Ok(set(T).array()));
 }
 
 #[test]
@@ -154,7 +291,7 @@ fn yes_is_the_only_ok() {
         assert_eq!(set.verify(root, leaf, opening), Err(why));
         let error = merged(&set, root, leaf, opening).expect_err("not accepted");
         assert_eq!(error.to_string(), why.to_string());
-        let verdict = entries::verify(&T, root.words(), opening.place, leaf, &opening.siblings);
+        let verdict = entries::verify(set.array(), root.words(), opening.place, leaf, &opening.siblings);
         assert!(!verdict.is_accepted());
         assert_eq!(verdict.into_result(), Err(why));
     };
@@ -222,7 +359,7 @@ fn places_of_a_push() {
     }
     assert_eq!(tree, before);
     let mut store = [P, 0, 0, 0, 6, 4];
-    assert_eq!(entries::push(&T, &mut store, &[first, first]), Err(Refusal::NotAWord));
+    assert_eq!(entries::push(set.array(), &mut store, &[first, first]), Err(Refusal::NotAWord));
     assert_eq!(store, [P, 0, 0, 0, 6, 4]);
     assert_eq!(tree.push(&[second, first]), Ok(1));
     assert_eq!(tree.leaves(), [0; 4]);
@@ -289,17 +426,21 @@ fn sets_at_the_edge() {
 
 #[test]
 fn sizes() {
-    let sizes = |set: SetNumbers| entries::sizes(&set).map(|sizes| (sizes.leaves, sizes.store, sizes.opening));
-    assert_eq!(sizes(T), Ok((4, 6, 2)));
-    assert_eq!(sizes(SetNumbers { height: 0, ..T }), Ok((2, 2, 0)));
-    assert_eq!(sizes(SetNumbers { height: 32, ..T }), Ok((8589934592, 17179869182, 64)));
+    let sizes = |array: &[u64; SET_SIZE]| entries::sizes(array).map(|sizes| (sizes.leaves, sizes.store, sizes.opening));
+    let with_height = |height: u64| {
+        let mut array = *set(T).array();
+        array[2] = height;
+        array
+    };
+    assert_eq!(sizes(set(T).array()), Ok((4, 6, 2)));
+    assert_eq!(sizes(&with_height(0)), Ok((2, 2, 0)));
+    assert_eq!(sizes(&with_height(32)), Ok((8589934592, 17179869182, 64)));
+    assert_eq!(sizes(&with_height(33)), Err(Refusal::BadHeight));
     let set = published::width_12(4, 2).expect("accepted");
-    assert_eq!(sizes(set.numbers()), Ok((36, 52, 16)));
+    assert_eq!(sizes(set.array()), Ok((36, 52, 16)));
     assert_eq!((set.leaf_words(), set.store_words(), set.opening_words()), (36, 52, 16));
     let greatest = published::width_12(6, 32).expect("accepted");
-    assert_eq!(sizes(greatest.numbers()), Ok((25769803776, 51539607546, 192)));
-    assert_eq!(sizes(SetNumbers { height: 33, ..T }), Err(Refusal::BadHeight));
-    assert_eq!(sizes(SetNumbers { diagonal: &[P - 4; 4], ..T }), Err(Refusal::SingularDiagonal));
+    assert_eq!(sizes(greatest.array()), Ok((25769803776, 51539607546, 192)));
 }
 
 #[test]
@@ -356,51 +497,57 @@ fn every_function_gives_a_known_answer() {
     assert_eq!(entries::power(2, 7), Ok(128));
     assert_eq!(entries::inverse(2), Ok(9223372034707292161));
     assert_eq!(entries::seventh_root(128), Ok(2));
-    assert_eq!(entries::validate(&T), Ok(()));
+
+    let t = &entries::validate(&T).expect("accepted");
+    assert_eq!((t[..9].to_vec(), t[INVERSES + 1]), (vec![4, 2, 1, 2, 0, 1, 2, 3, 4], HALF));
+    let balanced = entries::exchange_diagonal(t, BALANCED.diagonal).expect("accepted");
+    assert_eq!((balanced[5..9].to_vec(), balanced[TOTAL_INVERSE]), (BALANCED.diagonal.to_vec(), 1));
+    let taller = entries::exchange_height(t, 5).expect("accepted");
+    assert_eq!((taller[2], taller[TOTAL_INVERSE]), (5, t[TOTAL_INVERSE]));
 
     let mut state = [1, 0, 0, 0];
-    assert_eq!(entries::permute(&T, &mut state), Ok(()));
+    assert_eq!(entries::permute(t, &mut state), Ok(()));
     assert_eq!(state, [5, 4, 1, 1]);
-    assert_eq!(entries::unpermute(&T, &mut state), Ok(()));
+    assert_eq!(entries::unpermute(t, &mut state), Ok(()));
     assert_eq!(state, [1, 0, 0, 0]);
     let mut node = [0; 2];
-    assert_eq!(entries::compress(&T, &state, &mut node), Ok(()));
+    assert_eq!(entries::compress(t, &state, &mut node), Ok(()));
     assert_eq!(node, [6, 4]);
 
-    assert_eq!(entries::sizes(&T), Ok(Sizes { leaves: 4, store: 6, opening: 2 }));
+    assert_eq!(entries::sizes(t), Ok(Sizes { leaves: 4, store: 6, opening: 2 }));
     let mut store = [9; 6];
-    assert_eq!(entries::build(&T, &[1, 0, 0, 0], &mut store), Ok(()));
+    assert_eq!(entries::build(t, &[1, 0, 0, 0], &mut store), Ok(()));
     assert_eq!(store, [1, 0, 0, 0, 6, 4]);
     let mut node = [0; 2];
-    assert_eq!(entries::root(&T, &store, &mut node), Ok(()));
+    assert_eq!(entries::root(t, &store, &mut node), Ok(()));
     assert_eq!(node, [6, 4]);
     let mut node = [0; 2];
-    assert_eq!(entries::storeless_root(&T, &[1, 0, 0, 0], &mut node), Ok(()));
+    assert_eq!(entries::storeless_root(t, &[1, 0, 0, 0], &mut node), Ok(()));
     assert_eq!(node, [6, 4]);
     let mut siblings = [9; 2];
-    assert_eq!(entries::open(&T, &store, 1, &mut siblings), Ok(()));
+    assert_eq!(entries::open(t, &store, 1, &mut siblings), Ok(()));
     assert_eq!(siblings, [1, 0]);
-    assert_eq!(entries::verify(&T, &node, 1, &[0, 0], &siblings), Verdict::Accepted);
-    assert_eq!(entries::verify(&T, &node, 0, &[0, 0], &siblings), Verdict::Rejected);
-    assert_eq!(entries::verify(&T, &node, 2, &[0, 0], &siblings), Verdict::Refused(Refusal::BadPlace));
+    assert_eq!(entries::verify(t, &node, 1, &[0, 0], &siblings), Verdict::Accepted);
+    assert_eq!(entries::verify(t, &node, 0, &[0, 0], &siblings), Verdict::Rejected);
+    assert_eq!(entries::verify(t, &node, 2, &[0, 0], &siblings), Verdict::Refused(Refusal::BadPlace));
     let mut part = [9; 2];
-    assert_eq!(entries::read_level(&T, &siblings, 0, &mut part), Ok(()));
+    assert_eq!(entries::read_level(t, &siblings, 0, &mut part), Ok(()));
     assert_eq!(part, [1, 0]);
 
     let mut store = [2, 3, 0, 0, 9, 9];
-    assert_eq!(entries::replace(&T, &mut store, 0, &[1, 0]), Ok(1));
+    assert_eq!(entries::replace(t, &mut store, 0, &[1, 0]), Ok(1));
     assert_eq!(store, [1, 0, 0, 0, 6, 4]);
     let mut store = [2, 3, 4, 5, 9, 9];
     let records = [Record { place: 1, words: [0; 6] }, Record { place: 0, words: [1, 0, P, P, P, P] }];
-    assert_eq!(entries::push(&T, &mut store, &records), Ok(1));
+    assert_eq!(entries::push(t, &mut store, &records), Ok(1));
     assert_eq!(store, [1, 0, 0, 0, 6, 4]);
     let mut store = [2, 3, 4, 5, 9, 9];
-    assert_eq!(entries::push_numbers(&T, &mut store, entries::record_numbers(&records)), Ok(1));
+    assert_eq!(entries::push_numbers(t, &mut store, entries::record_numbers(&records)), Ok(1));
     assert_eq!(store, [1, 0, 0, 0, 6, 4]);
 
     let (mut first_row, mut second_row) = ([0; 4], [0; 4]);
     let level = entries::extract(
-        &WEAK,
+        set(WEAK).array(),
         &WEAK_ROOT,
         WEAK_PLACE,
         FIRST.leaf,
@@ -415,6 +562,6 @@ fn every_function_gives_a_known_answer() {
     assert_eq!(second_row[..2], SECOND.siblings[2..]);
 
     let mut leaf = [9; 2];
-    assert_eq!(entries::leaf_of_file(&T, b"hello\n", &mut leaf), Ok(()));
+    assert_eq!(entries::leaf_of_file(t, b"hello\n", &mut leaf), Ok(()));
     assert_eq!(leaf, [7674626845191841513, 11908278685281199477]);
 }

@@ -5,7 +5,7 @@ use std::collections::HashSet;
 use super::field;
 use super::files;
 use super::permutation;
-use super::set::{check_set, refuse, Set};
+use super::set::{check_set, refuse, validated, Numbers, Set};
 use super::tree;
 
 const RECORD_NUMBERS: usize = 7;
@@ -57,8 +57,20 @@ pub fn seventh_root(y: u64) -> Result<u64, u8> {
     Ok(field::seventh_root(y))
 }
 
-pub fn validate(set: &Set) -> Result<(), u8> {
-    check_set(set)
+pub fn validate(numbers: &Numbers) -> Result<Set, u8> {
+    validated(numbers)
+}
+
+/// The set that is handed in is judged first, and then the outcome.
+pub fn exchange_diagonal(set: &Set, diagonal: &[u64]) -> Result<Set, u8> {
+    check_set(set)?;
+    validated(&Numbers { diagonal: diagonal.to_vec(), ..set.numbers() })
+}
+
+/// The same.
+pub fn exchange_height(set: &Set, height: u64) -> Result<Set, u8> {
+    check_set(set)?;
+    validated(&Numbers { height, ..set.numbers() })
 }
 
 pub fn permute(set: &Set, state: &mut [u64]) -> Result<(), u8> {

@@ -45,7 +45,7 @@ pub fn partial_rounds(diagonal: &[u64], constants: &[u64], state: &[u64]) -> Vec
 /// The constants of the first half of the full rounds, of the partial rounds, and of the second half.
 fn parts(set: &Set) -> (&[u64], &[u64], &[u64]) {
     let half = (set.width * set.full_rounds / 2) as usize;
-    let (first, rest) = set.constants.split_at(half);
+    let (first, rest) = set.used_constants().split_at(half);
     let (partial, second) = rest.split_at(set.partial_rounds as usize);
     (first, partial, second)
 }
@@ -56,7 +56,7 @@ pub fn permute(set: &Set, state: &[u64]) -> Vec<u64> {
     for constants in first.chunks(set.width as usize) {
         state = full_round(constants, &state);
     }
-    state = partial_rounds(&set.diagonal, partial, &state);
+    state = partial_rounds(set.used_diagonal(), partial, &state);
     for constants in second.chunks(set.width as usize) {
         state = full_round(constants, &state);
     }
@@ -87,7 +87,7 @@ pub fn unpermute(set: &Set, state: &[u64]) -> Vec<u64> {
     for constants in second.chunks(t).rev() {
         state = undo_full_round(constants, &state);
     }
-    state = undo_partial_rounds(&set.diagonal, partial, &state);
+    state = undo_partial_rounds(set.used_diagonal(), partial, &state);
     for constants in first.chunks(t).rev() {
         state = undo_full_round(constants, &state);
     }

@@ -1,10 +1,11 @@
 //! A call of any function, made to the library or to the model.
 
-use opening_tree::entries::{self, SetNumbers};
-use opening_tree::{Refusal, Verdict};
+use opening_tree::entries::{self, SetNumbers, SET_SIZE};
+use opening_tree::{ParameterSet, Refusal, Verdict};
 
+use super::cases::with_diagonal;
 use crate::model;
-use crate::model::set::Set;
+use crate::model::set::{Numbers, Set};
 
 #[derive(Clone, Copy, Debug, PartialEq, Eq)]
 pub enum Entry {
@@ -15,6 +16,8 @@ pub enum Entry {
     Inverse,
     SeventhRoot,
     Validate,
+    ExchangeDiagonal,
+    ExchangeHeight,
     Permute,
     Unpermute,
     Compress,
@@ -32,7 +35,7 @@ pub enum Entry {
 }
 
 impl Entry {
-    pub const ALL: [Entry; 21] = [
+    pub const ALL: [Entry; 23] = [
         Entry::Sum,
         Entry::Difference,
         Entry::Product,
@@ -40,6 +43,8 @@ impl Entry {
         Entry::Inverse,
         Entry::SeventhRoot,
         Entry::Validate,
+        Entry::ExchangeDiagonal,
+        Entry::ExchangeHeight,
         Entry::Permute,
         Entry::Unpermute,
         Entry::Compress,
@@ -56,28 +61,43 @@ impl Entry {
         Entry::LeafOfFile,
     ];
 
-    /// Whether it is one of the field's functions, which take no set.
+    /// Whether it is one of the field's functions.
     pub fn is_of_field(self) -> bool {
         (self as usize) < Entry::Validate as usize
     }
 
-    /// The numbers of the refusals that it can give.
+    pub fn takes_set(self) -> bool {
+        self as usize > Entry::Validate as usize
+    }
+
+    /// The functions that take a set.
+    pub fn with_set() -> impl Iterator<Item = Entry> {
+        Entry::ALL.into_iter().filter(|entry| entry.takes_set())
+    }
+
+    /// The numbers of the refusals that it can give, rising.
     pub fn refusals(self) -> Vec<u8> {
-        match self {
-            Entry::Inverse => vec![12, 13],
-            field if field.is_of_field() => vec![12],
-            Entry::Validate | Entry::Sizes => (1..=9).collect(),
-            Entry::Open | Entry::Verify | Entry::ReadLevel | Entry::Replace => (1..=12).collect(),
-            Entry::Push => (1..=12).chain([17]).collect(),
-            Entry::Extract => (1..=12).chain([14, 15]).collect(),
-            Entry::LeafOfFile => (1..=10).chain([16]).collect(),
-            _ => (1..=10).chain([12]).collect(),
-        }
+        let own: &[u8] = match self {
+            Entry::Inverse => &[12, 13],
+            field if field.is_of_field() => &[12],
+            Entry::Validate => &[1, 2, 3, 4, 5, 6, 7, 8, 9],
+            Entry::ExchangeDiagonal => &[6],
+            Entry::ExchangeHeight | Entry::Sizes => &[],
+            Entry::Open | Entry::Verify | Entry::ReadLevel | Entry::Replace => &[10, 11, 12],
+            Entry::Push => &[10, 11, 12, 17],
+            Entry::Extract => &[10, 11, 12, 14, 15],
+            Entry::LeafOfFile => &[10, 16],
+            _ => &[10, 12],
+        };
+        let of_set: &[u8] = if self.takes_set() { &[1, 2, 3, 4, 5, 7, 8, 9, 18] } else { &[] };
+        let mut refusals = [of_set, own].concat();
+        refusals.sort();
+        refusals
     }
 }
 
-/// The arguments of a call. The numbers and buffers are in the order of the function's own parameters; the field's functions ignore
-/// the set, and all but `leaf_of_file` the contents.
+/// The arguments of a call. The numbers and buffers are in the order of the function's own parameters; the field's functions and
+/// validation ignore the set, and all but `leaf_of_file` the contents.
 #[derive(Clone, Debug, PartialEq)]
 pub struct Call {
     pub entry: Entry,
@@ -87,9 +107,10 @@ pub struct Call {
     pub contents: Vec<u8>,
 }
 
-#[derive(Clone, Copy, Debug, PartialEq, Eq)]
+#[derive(Clone, Debug, PartialEq, Eq)]
 pub enum Answer {
     Done,
+    Set(Box<[u64; SET_SIZE]>),
     /// A word, a count or a level.
     Number(u64),
     /// Of all leaves, a store and an opening.
@@ -102,6 +123,18 @@ pub enum Answer {
 impl From<Result<(), u8>> for Answer {
     fn from(result: Result<(), u8>) -> Answer {
         result.map_or_else(Answer::Refused, |()| Answer::Done)
+    }
+}
+
+impl From<Result<[u64; SET_SIZE], u8>> for Answer {
+    fn from(result: Result<[u64; SET_SIZE], u8>) -> Answer {
+        result.map_or_else(Answer::Refused, |set| Answer::Set(Box::new(set)))
+    }
+}
+
+impl From<Result<Set, u8>> for Answer {
+    fn from(result: Result<Set, u8>) -> Answer {
+        result.map(|set| set.array()).into()
     }
 }
 
@@ -138,7 +171,7 @@ fn numbered<T>(result: Result<T, Refusal>) -> Result<T, u8> {
     result.map_err(Refusal::number)
 }
 
-/// The set as the library takes it.
+/// What the library's validation is given for a set.
 pub fn numbers(set: &Set) -> SetNumbers<'_> {
     SetNumbers {
         width: set.width,
@@ -146,9 +179,14 @@ pub fn numbers(set: &Set) -> SetNumbers<'_> {
         height: set.height,
         full_rounds: set.full_rounds,
         partial_rounds: set.partial_rounds,
-        diagonal: &set.diagonal,
-        constants: &set.constants,
+        diagonal: set.used_diagonal(),
+        constants: set.used_constants(),
     }
+}
+
+/// An accepted set, as the library keeps it.
+pub fn kept(set: &Set) -> ParameterSet {
+    ParameterSet::new(numbers(set)).expect("accepted")
 }
 
 impl Call {
@@ -157,9 +195,29 @@ impl Call {
         Call { entry: Entry::Sizes, set, numbers: vec![], buffers: vec![], contents: vec![] }
     }
 
+    /// The D of its set, or what validation is given for it; nothing for a function of the field.
+    pub fn diagonal(&self) -> &[u64] {
+        match self.entry {
+            Entry::Validate => &self.buffers[0],
+            entry if entry.takes_set() => self.set.used_diagonal(),
+            _ => &[],
+        }
+    }
+
+    /// The call with another D in its set, whose values it keeps, or in what validation is given.
+    pub fn with_diagonal(&self, diagonal: &[u64]) -> Call {
+        let mut call = self.clone();
+        if call.entry == Entry::Validate {
+            call.buffers[0] = diagonal.to_vec();
+        } else {
+            call.set = with_diagonal(call.set, diagonal);
+        }
+        call
+    }
+
     /// Calls the library.
     pub fn ask_library(&mut self) -> Answer {
-        let set = &numbers(&self.set);
+        let set = &self.set.array();
         match (self.entry, &self.numbers[..], &mut self.buffers[..]) {
             (Entry::Sum, &[a, b], []) => numbered(entries::sum(a, b)).into(),
             (Entry::Difference, &[a, b], []) => numbered(entries::difference(a, b)).into(),
@@ -167,7 +225,12 @@ impl Call {
             (Entry::Power, &[base, exponent], []) => numbered(entries::power(base, exponent)).into(),
             (Entry::Inverse, &[x], []) => numbered(entries::inverse(x)).into(),
             (Entry::SeventhRoot, &[y], []) => numbered(entries::seventh_root(y)).into(),
-            (Entry::Validate, [], []) => numbered(entries::validate(set)).into(),
+            (Entry::Validate, &[width, node_size, height, full_rounds, partial_rounds], [diagonal, constants]) => {
+                let numbers = SetNumbers { width, node_size, height, full_rounds, partial_rounds, diagonal, constants };
+                numbered(entries::validate(&numbers)).into()
+            }
+            (Entry::ExchangeDiagonal, [], [diagonal]) => numbered(entries::exchange_diagonal(set, diagonal)).into(),
+            (Entry::ExchangeHeight, &[height], []) => numbered(entries::exchange_height(set, height)).into(),
             (Entry::Permute, [], [state]) => numbered(entries::permute(set, state)).into(),
             (Entry::Unpermute, [], [state]) => numbered(entries::unpermute(set, state)).into(),
             (Entry::Compress, [], [state, node]) => numbered(entries::compress(set, state, node)).into(),
@@ -201,7 +264,13 @@ impl Call {
             (Entry::Power, &[base, exponent], []) => entries::power(base, exponent).into(),
             (Entry::Inverse, &[x], []) => entries::inverse(x).into(),
             (Entry::SeventhRoot, &[y], []) => entries::seventh_root(y).into(),
-            (Entry::Validate, [], []) => entries::validate(set).into(),
+            (Entry::Validate, &[width, node_size, height, full_rounds, partial_rounds], [diagonal, constants]) => {
+                let (diagonal, constants) = (diagonal.clone(), constants.clone());
+                let numbers = Numbers { width, node_size, height, full_rounds, partial_rounds, diagonal, constants };
+                entries::validate(&numbers).into()
+            }
+            (Entry::ExchangeDiagonal, [], [diagonal]) => entries::exchange_diagonal(set, diagonal).into(),
+            (Entry::ExchangeHeight, &[height], []) => entries::exchange_height(set, height).into(),
             (Entry::Permute, [], [state]) => entries::permute(set, state).into(),
             (Entry::Unpermute, [], [state]) => entries::unpermute(set, state).into(),
             (Entry::Compress, [], [state, node]) => entries::compress(set, state, node).into(),

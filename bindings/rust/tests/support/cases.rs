@@ -6,7 +6,7 @@ use opening_tree::Record;
 use super::calls::{Call, Entry};
 use super::generator::Generator;
 use crate::model::field::{self, P};
-use crate::model::set::{check_set, Set};
+use crate::model::set::{validated, Numbers, Set, CONSTANT_PLACES};
 use crate::model::tree;
 
 /// Every width with every node size.
@@ -18,17 +18,42 @@ pub fn greatest_height(width: u64, node_size: u64) -> u64 {
     (0..=32).take_while(|&h| arity.pow(h) <= 1 << 32).last().expect("0 passes").into()
 }
 
-/// An accepted set of this shape, with drawn words. Now and then one word of the diagonal is 0.
+/// An accepted set of this shape, with drawn words. Now and then one word of the diagonal is 0, and at times the places that the set does
+/// not use hold anything.
 pub fn set_of(generator: &mut Generator, shape: (u64, u64), height: u64, full_rounds: u64, partial_rounds: u64) -> Set {
     let (width, node_size) = shape;
     loop {
         let diagonal = diagonal_of(generator, width as usize);
         let constants = generator.words((width * full_rounds + partial_rounds) as usize);
-        let set = Set { width, node_size, height, full_rounds, partial_rounds, diagonal, constants };
-        match check_set(&set) {
-            Ok(()) => return set,
+        match validated(&Numbers { width, node_size, height, full_rounds, partial_rounds, diagonal, constants }) {
+            Ok(mut set) => {
+                if generator.once_in(2) {
+                    fill_beyond(generator, &mut set);
+                }
+                return set;
+            }
             Err(number) => assert_eq!(number, 9, "only the diagonal's words are left to chance"),
         }
+    }
+}
+
+/// The set with these words in D, whose values it keeps.
+pub fn with_diagonal(mut set: Set, diagonal: &[u64]) -> Set {
+    set.diagonal[..diagonal.len()].copy_from_slice(diagonal);
+    set.keep();
+    set
+}
+
+/// The places that a set does not use: of D, of C, and of the inverses that are kept.
+pub fn beyond(set: &mut Set) -> [&mut [u64]; 3] {
+    let (words, constants) = (set.used_diagonal().len(), set.used_constants().len());
+    [&mut set.diagonal[words..], &mut set.constants[constants..], &mut set.inverses[words..]]
+}
+
+/// Puts junk there.
+pub fn fill_beyond(generator: &mut Generator, set: &mut Set) {
+    for places in beyond(set) {
+        places.copy_from_slice(&generator.junk(places.len()));
     }
 }
 
@@ -44,21 +69,25 @@ pub fn diagonal_of(generator: &mut Generator, width: usize) -> Vec<u64> {
 /// An accepted set of small numbers, under which a tree has two leaves of two words.
 pub fn small() -> Set {
     let (diagonal, constants) = (vec![1, 2, 3, 4], vec![0; 8]);
-    Set { width: 4, node_size: 2, height: 1, full_rounds: 2, partial_rounds: 0, diagonal, constants }
+    validated(&Numbers { width: 4, node_size: 2, height: 1, full_rounds: 2, partial_rounds: 0, diagonal, constants })
+        .expect("accepted")
 }
 
-/// A set for each of the numbers 1 to 9, in order, that is refused with it.
-pub fn refused_sets() -> [Set; 9] {
+/// A set for each of the numbers that a set is refused with.
+pub fn refused_sets() -> [(Set, u8); 9] {
+    let [mut two_zeros, mut singular] = [small(), small()];
+    two_zeros.diagonal[1..3].fill(0);
+    singular.diagonal[..4].fill(P - 4);
     [
-        Set { width: 5, ..small() },
-        Set { node_size: 4, ..small() },
-        Set { full_rounds: 3, ..small() },
-        Set { partial_rounds: 65, ..small() },
-        Set { height: 33, ..small() },
-        Set { constants: vec![0; 7], ..small() },
-        Set { constants: vec![P; 8], ..small() },
-        Set { diagonal: vec![1, 0, 0, 4], ..small() },
-        Set { diagonal: vec![P - 4; 4], ..small() },
+        (Set { width: 5, ..small() }, 1),
+        (Set { node_size: 4, ..small() }, 2),
+        (Set { full_rounds: 3, ..small() }, 3),
+        (Set { partial_rounds: 65, ..small() }, 4),
+        (Set { height: 33, ..small() }, 5),
+        (Set { constants: [P; CONSTANT_PLACES], ..small() }, 7),
+        (two_zeros, 8),
+        (singular, 9),
+        (Set { total_inverse: 0, ..small() }, 18),
     ]
 }
 
@@ -71,9 +100,9 @@ pub fn set_for(generator: &mut Generator, entry: Entry) -> Set {
         3 | 4 => 3,
         _ => 2,
     };
-    let needs_tree = !matches!(
+    let needs_tree = matches!(
         entry,
-        Entry::Permute | Entry::Unpermute | Entry::Compress | Entry::Sizes | Entry::Verify | Entry::ReadLevel | Entry::LeafOfFile
+        Entry::Build | Entry::Root | Entry::StorelessRoot | Entry::Open | Entry::Replace | Entry::Push | Entry::Extract
     );
     let greatest = if needs_tree || !generator.once_in(8) { small } else { greatest_height(shape.0, shape.1) };
     let height = generator.below(greatest as usize + 1) as u64;
@@ -214,7 +243,16 @@ pub fn call(generator: &mut Generator, entry: Entry, set: Set) -> Call {
             let word = generator.word();
             (vec![if generator.once_in(2) { field::power(word, 7) } else { word }], vec![])
         }
-        Entry::Validate | Entry::Sizes => (vec![], vec![]),
+        Entry::Validate => {
+            let Numbers { width, node_size, height, full_rounds, partial_rounds, diagonal, constants } = set.numbers();
+            (vec![width, node_size, height, full_rounds, partial_rounds], vec![diagonal, constants])
+        }
+        Entry::ExchangeDiagonal => (vec![], vec![diagonal_of(generator, t)]),
+        Entry::ExchangeHeight => {
+            let greatest = greatest_height(set.width, set.node_size);
+            (vec![generator.below(greatest as usize + 1) as u64], vec![])
+        }
+        Entry::Sizes => (vec![], vec![]),
         Entry::Permute | Entry::Unpermute => (vec![], vec![generator.words(t)]),
         Entry::Compress => (vec![], vec![generator.words(t), generator.junk(l)]),
         Entry::Build => {

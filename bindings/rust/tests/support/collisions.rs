@@ -19,13 +19,13 @@
 //! that node of d. So the path goes through other nodes at each level, and never the first.
 
 use super::calls::{Call, Entry};
-use super::cases::{diagonal_of, greatest_height};
+use super::cases::{diagonal_of, fill_beyond, greatest_height};
 use super::generator::Generator;
 use super::roots::roots;
 use crate::model::field::{add, add_lists, inverse, multiply, power, seventh_power, seventh_root, subtract, subtract_lists};
 use crate::model::linear::{inverse_matrix, matrix_of, times, Matrix};
 use crate::model::permutation::{external_layer, partial_rounds, undo_partial_rounds};
-use crate::model::set::{check_set, Set};
+use crate::model::set::{validated, Numbers, Set};
 use crate::model::tree::climb;
 
 /// The levels at which a collision's rows compress alike.
@@ -299,9 +299,9 @@ impl Search<'_> {
         let constants = [external_layer(&d), self.partial.clone(), last].concat();
         let partial_rounds = self.partial.len() as u64;
         let (width, node_size) = shape;
-        let set = Set { width, node_size, height: 0, full_rounds: 2, partial_rounds, diagonal: self.diagonal, constants };
-        assert_eq!(check_set(&set), Ok(()));
-        Collision { set, rows, digits }
+        let diagonal = self.diagonal;
+        let numbers = Numbers { width, node_size, height: 0, full_rounds: 2, partial_rounds, diagonal, constants };
+        Collision { set: validated(&numbers).expect("accepted"), rows, digits }
     }
 }
 
@@ -312,7 +312,8 @@ fn solved(rows: &Matrix, places: &[usize], wanted: &[u64]) -> Option<Vec<u64>> {
 }
 
 impl Collision {
-    /// An extraction: the leaf at any node of its row, and any height and any siblings above the rows.
+    /// An extraction: the leaf at any node of its row, any height and any siblings above the rows, and at times anything in the places that
+    /// the set does not use.
     pub fn extraction(&self, generator: &mut Generator) -> Call {
         let (t, l) = (self.set.width as usize, self.set.node_size as usize);
         let least = self.rows.len();
@@ -320,6 +321,9 @@ impl Collision {
         let height = if generator.once_in(16) { greatest } else { greatest.min(least + generator.below(3)) };
         let mut set = self.set.clone();
         set.height = height as u64;
+        if generator.once_in(2) {
+            fill_beyond(generator, &mut set);
+        }
         let mut digits = vec![generator.below(t / l)];
         digits.extend(&self.digits);
         digits.extend((least..height).map(|_| generator.below(t / l)));

@@ -1,13 +1,17 @@
 //! Changes to a call, most of which some row refuses or a verdict rejects.
 
 use super::calls::{Call, Entry};
-use super::cases::repeat_place;
+use super::cases::{fill_beyond, repeat_place};
 use super::generator::Generator;
 use crate::model::field::{add, inverse, is_word, subtract, P};
 use crate::model::set::Set;
 
 /// What is put in the place of any number.
 pub const EDGES: [u64; 4] = [P - 1, P, P + 1, u64::MAX];
+
+/// What is put in the place of a height.
+const HEIGHTS: [u64; 23] =
+    [0, 8, 9, 10, 11, 12, 13, 14, 16, 17, 20, 21, 31, 32, 33, 34, 63, 64, 65, 128, 1 << 32, (1 << 32) + 1, u64::MAX];
 
 /// One change.
 pub fn damage(generator: &mut Generator, call: &mut Call) {
@@ -16,9 +20,16 @@ pub fn damage(generator: &mut Generator, call: &mut Call) {
         call.numbers[at] = generator.pick(&[0, 1, P - 1, P, P + 1, u64::MAX]);
         return;
     }
-    // Half of the changes are to the set, but for validation and the sizes, which have nothing else.
-    if matches!(call.entry, Entry::Validate | Entry::Sizes) || generator.once_in(2) {
+    if call.entry == Entry::Validate {
+        return damage_validation(generator, call);
+    }
+    // Half of the changes are to the set, but for the sizes, which have nothing else.
+    if call.entry == Entry::Sizes || generator.once_in(2) {
         damage_set(generator, &mut call.set);
+    } else if call.entry == Entry::ExchangeDiagonal {
+        damage_diagonal(generator, &mut call.buffers[0]);
+    } else if call.entry == Entry::ExchangeHeight {
+        call.numbers[0] = generator.pick(&HEIGHTS);
     } else if !call.numbers.is_empty() && generator.once_in(4) {
         call.numbers[0] = place(generator, call);
     } else if matches!(call.entry, Entry::Verify | Entry::Extract) && generator.once_in(4) {
@@ -53,33 +64,83 @@ fn place(generator: &mut Generator, call: &Call) -> u64 {
     generator.pick(&places)
 }
 
+/// What validation is given: a list of another length, or another number.
+fn damage_validation(generator: &mut Generator, call: &mut Call) {
+    let numbers = (&mut call.numbers[..]).try_into().expect("five numbers");
+    let [diagonal, constants] = &mut call.buffers[..] else { panic!("validation has two lists") };
+    match generator.below(10) {
+        0 => resize(generator, diagonal),
+        1 => resize(generator, constants),
+        _ => damage_numbers(generator, numbers, diagonal, constants),
+    }
+}
+
+/// A set that is handed in: other kept values, other numbers in the places that it does not use, or another of its numbers and words. After
+/// these the values that it keeps are mostly those of its D.
 fn damage_set(generator: &mut Generator, set: &mut Set) {
     match generator.below(10) {
-        0 => {
-            set.width = generator.pick(&[0, 1, 2, 3, 4, 5, 6, 7, 8, 9, 10, 11, 12, 13, 16, 24, 1 << 32, (1 << 32) + 4, u64::MAX])
+        0 | 1 => damage_kept_values(generator, set),
+        2 => fill_beyond(generator, set),
+        _ => {
+            let mut numbers = set.five();
+            let (words, constants) = (set.used_diagonal().len(), set.used_constants().len());
+            damage_numbers(generator, &mut numbers, &mut set.diagonal[..words], &mut set.constants[..constants]);
+            [set.width, set.node_size, set.height, set.full_rounds, set.partial_rounds] = numbers;
+            if !generator.once_in(4) {
+                set.keep();
+            }
         }
+    }
+}
+
+/// One of the kept values that are read becomes another; or all become others.
+fn damage_kept_values(generator: &mut Generator, set: &mut Set) {
+    let words = set.used_diagonal().len();
+    let at = generator.below(words + 2);
+    if at < words {
+        set.inverses[at] = generator.pick(&others(set.inverses[at]));
+    } else if at == words {
+        set.total_inverse = generator.pick(&others(set.total_inverse));
+    } else {
+        set.inverses[..words].copy_from_slice(&generator.words(words));
+        set.total_inverse = generator.word();
+    }
+}
+
+/// Other numbers for a kept value: one more, one less, p more, which is congruent where it fits in 64 bits, p less it, and edges.
+pub fn others(value: u64) -> Vec<u64> {
+    let near = [value.wrapping_add(1), value.wrapping_sub(1), value.wrapping_add(P), P.wrapping_sub(value)];
+    near.into_iter().chain([0, 1]).chain(EDGES).filter(|&other| other != value).collect()
+}
+
+/// One of the five numbers, or a word of D or C.
+fn damage_numbers(generator: &mut Generator, numbers: &mut [u64; 5], diagonal: &mut [u64], constants: &mut [u64]) {
+    let [width, node_size, height, full_rounds, partial_rounds] = numbers;
+    match generator.below(8) {
+        0 => *width = generator.pick(&[0, 1, 2, 3, 4, 5, 6, 7, 8, 9, 10, 11, 12, 13, 16, 24, 1 << 32, (1 << 32) + 4, u64::MAX]),
         1 => {
-            let sizes = [0, 1, 2, 3, 4, 5, 6, 7, 8, 9, 12, 13, 24, set.width, set.width.wrapping_mul(2), (1 << 32) + 2, u64::MAX];
-            set.node_size = generator.pick(&sizes);
+            let sizes = [0, 1, 2, 3, 4, 5, 6, 7, 8, 9, 12, 13, 24, *width, width.wrapping_mul(2), (1 << 32) + 2, u64::MAX];
+            *node_size = generator.pick(&sizes);
         }
         2 => {
-            set.full_rounds =
+            *full_rounds =
                 generator.pick(&[0, 1, 2, 3, 5, 7, 9, 11, 12, 13, 14, 16, 1 << 32, (1 << 32) + 2, u64::MAX - 1, u64::MAX])
         }
-        3 => set.partial_rounds = generator.pick(&[0, 63, 64, 65, 66, 128, 1 << 32, 1 << 63, u64::MAX]),
-        4 => {
-            let heights =
-                [0, 8, 9, 10, 11, 12, 13, 14, 16, 17, 20, 21, 31, 32, 33, 34, 63, 64, 65, 128, 1 << 32, (1 << 32) + 1, u64::MAX];
-            set.height = generator.pick(&heights);
-        }
-        5 => resize(generator, &mut set.diagonal),
-        6 => resize(generator, &mut set.constants),
-        7 => {
-            let list = if generator.once_in(2) { &mut set.diagonal } else { &mut set.constants };
-            put(list, generator, EDGES.to_vec());
-        }
-        8 => put_zeros(generator, &mut set.diagonal),
-        _ => make_cancelling(generator, &mut set.diagonal),
+        3 => *partial_rounds = generator.pick(&[0, 63, 64, 65, 66, 128, 1 << 32, 1 << 63, u64::MAX]),
+        4 => *height = generator.pick(&HEIGHTS),
+        5 => put(if generator.once_in(2) { diagonal } else { constants }, generator, EDGES.to_vec()),
+        6 => put_zeros(generator, diagonal),
+        _ => make_cancelling(generator, diagonal),
+    }
+}
+
+/// A D to exchange: of another length, with a number that is not a word, with zeros, or with inverses that cancel.
+fn damage_diagonal(generator: &mut Generator, diagonal: &mut Vec<u64>) {
+    match generator.below(4) {
+        0 => resize(generator, diagonal),
+        1 => put(diagonal, generator, EDGES.to_vec()),
+        2 => put_zeros(generator, diagonal),
+        _ => make_cancelling(generator, diagonal),
     }
 }
 

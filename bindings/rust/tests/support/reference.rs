@@ -3,10 +3,12 @@
 use std::process::Command;
 
 use crate::model::field::P;
-use crate::model::set::Set;
+use crate::model::set::{Set, CONSTANT_PLACES, DIAGONAL_PLACES};
 
-const DIAGONAL_PLACES: usize = 12;
-const CONSTANT_PLACES: usize = 208;
+/// The reference's digest of a list of numbers.
+pub fn digest(numbers: &[u64]) -> u64 {
+    numbers.iter().fold(1, |digest: u64, &number| digest.wrapping_mul(31).wrapping_add(number))
+}
 
 /// A file of the repository.
 pub fn text(path: &str) -> String {
@@ -45,13 +47,16 @@ impl Input {
         let count = self.number().min(places as u64) as usize;
         let mut buffer = drawn(self.number(), count);
         buffer.resize(places, beyond);
-        for _ in 0..self.number() {
-            let (place, length) = (self.number(), self.number());
-            for at in place..place + length {
-                buffer[at as usize] = self.number();
-            }
-        }
+        self.runs(&mut buffer);
         (buffer, count)
+    }
+
+    /// Values that are written over others.
+    fn runs(&mut self, buffer: &mut [u64]) {
+        for _ in 0..self.number() {
+            let (place, length) = (self.number() as usize, self.number() as usize);
+            buffer[place..place + length].fill_with(|| self.number());
+        }
     }
 
     /// A list in a buffer of so many places.
@@ -61,14 +66,44 @@ impl Input {
         buffer
     }
 
-    /// A set that is handed in: the places of its lists that it uses, as the library takes no others.
+    /// A set that is handed in, which keeps the values of its D.
     pub fn set(&mut self) -> Set {
         let [width, node_size, height, full_rounds, partial_rounds, beyond] = [(); 6].map(|()| self.number());
-        let (mut diagonal, _) = self.buffer(DIAGONAL_PLACES, beyond);
-        let (mut constants, _) = self.buffer(CONSTANT_PLACES, beyond);
-        diagonal.truncate(width as usize);
-        constants.truncate(width.saturating_mul(full_rounds).saturating_add(partial_rounds) as usize);
-        Set { width, node_size, height, full_rounds, partial_rounds, diagonal, constants }
+        let (diagonal, _) = self.buffer(DIAGONAL_PLACES, beyond);
+        let (constants, _) = self.buffer(CONSTANT_PLACES, beyond);
+        let mut set = Set {
+            width,
+            node_size,
+            height,
+            full_rounds,
+            partial_rounds,
+            diagonal: diagonal.try_into().expect("the places of D"),
+            constants: constants.try_into().expect("the places of C"),
+            inverses: [beyond; DIAGONAL_PLACES],
+            total_inverse: 0,
+        };
+        set.keep();
+        set
+    }
+
+    /// A set with values that are written over those that it keeps.
+    pub fn set_and_kept(&mut self) -> Set {
+        let mut set = self.set();
+        let mut kept = [&set.inverses[..], &[set.total_inverse]].concat();
+        self.runs(&mut kept);
+        set.total_inverse = kept.pop().expect("the last of them");
+        set.inverses.copy_from_slice(&kept);
+        set
+    }
+
+    /// Drawn words, one of which may be p.
+    pub fn held(&mut self, seed: u64) -> Vec<u64> {
+        let (count, fault) = (self.number() as usize, self.number() as usize);
+        let mut words = drawn(seed, count);
+        if fault > 0 {
+            words[fault - 1] = P;
+        }
+        words
     }
 }
 

@@ -3,11 +3,12 @@
 use opening_tree::Record;
 
 use super::calls::{Answer, Call, Entry};
+use super::cases::beyond;
 use crate::model::field::is_word;
 
 /// Refusals are at their numbers.
 const DONE: usize = 0;
-const LAST_REFUSAL: usize = 17;
+const LAST_REFUSAL: usize = 18;
 const REJECTED: usize = LAST_REFUSAL + 1;
 
 /// The refusal of a file of 2^32 bytes or more. No call that is drawn has so many; tests/files.rs has.
@@ -15,6 +16,9 @@ const FILE_TOO_LONG: u8 = 16;
 
 /// The refusal of a push that has a place twice.
 const REPEATED_PLACE: u8 = 17;
+
+/// The refusal of a set whose kept values are not those of its D.
+const BAD_KEPT_VALUES: usize = 18;
 
 /// The library looks for a place that stands twice in another way where there are over so many records.
 const FEW_RECORDS: usize = 128;
@@ -34,6 +38,8 @@ pub struct Tally {
     passed_over: [u64; Entry::ALL.len()],
     /// Calls that were done under a set whose diagonal has a zero.
     with_zero: [u64; Entry::ALL.len()],
+    /// Calls that were done under a set of which a place that it does not use holds another number than 0.
+    with_beyond: [u64; Entry::ALL.len()],
     /// Extractions by the level they answered.
     levels: Vec<u64>,
     /// Those of few records, and those of more.
@@ -43,7 +49,7 @@ pub struct Tally {
 impl Tally {
     /// Makes the call to the library and to the model, and compares the answers and every buffer; and the sizes of the call's set.
     pub fn compare(&mut self, call: Call) -> Answer {
-        if !call.entry.is_of_field() && call.entry != Entry::Sizes {
+        if call.entry.takes_set() && call.entry != Entry::Sizes {
             self.compare_one(Call::sizes(call.set.clone()));
         }
         self.compare_one(call)
@@ -57,27 +63,31 @@ impl Tally {
         if let Answer::Refused(number) = answer {
             assert_eq!(library, call, "refusal {number} was given, and a buffer has changed");
         }
-        self.count(&call, answer);
+        self.count(&call, &answer);
         answer
     }
 
-    fn count(&mut self, call: &Call, answer: Answer) {
+    fn count(&mut self, call: &Call, answer: &Answer) {
         let entry = call.entry as usize;
         let column = match answer {
-            Answer::Done | Answer::Number(_) | Answer::Sizes(_) | Answer::Accepted => DONE,
+            Answer::Done | Answer::Set(_) | Answer::Number(_) | Answer::Sizes(_) | Answer::Accepted => DONE,
             Answer::Rejected => REJECTED,
-            Answer::Refused(number) => number as usize,
+            Answer::Refused(number) => *number as usize,
         };
         self.counts[entry][column] += 1;
         let numbers = if call.entry == Entry::Power { &call.numbers[..] } else { &[] };
         if column == DONE && call.buffers.iter().flatten().chain(numbers).any(|&n| !is_word(n)) {
             self.passed_over[entry] += 1;
         }
-        if column == DONE && !call.entry.is_of_field() && call.set.diagonal.contains(&0) {
+        if column == DONE && call.diagonal().contains(&0) {
             self.with_zero[entry] += 1;
         }
+        let holds_beyond = || beyond(&mut call.set.clone()).into_iter().flatten().any(|number| *number != 0);
+        if column == DONE && call.entry.takes_set() && holds_beyond() {
+            self.with_beyond[entry] += 1;
+        }
         if let (Entry::Extract, Answer::Number(level)) = (call.entry, answer) {
-            let level = level as usize;
+            let level = *level as usize;
             self.levels.resize(self.levels.len().max(level + 1), 0);
             self.levels[level] += 1;
         }
@@ -86,7 +96,7 @@ impl Tally {
         }
     }
 
-    fn count_push(&mut self, records: usize, answer: Answer) {
+    fn count_push(&mut self, records: usize, answer: &Answer) {
         let pushes = &mut self.pushes[usize::from(records > FEW_RECORDS)];
         match answer {
             Answer::Number(_) if records > 1 => pushes.done += 1,
@@ -109,14 +119,16 @@ impl Tally {
     }
 
     pub fn print(&self) {
-        print!("{:14} {:>6}", "", "done");
+        print!("{:16} {:>6}", "", "done");
         (1..=LAST_REFUSAL).for_each(|number| print!(" {number:>5}"));
-        println!(" rejected  not looked at  0 in D");
+        println!(" rejected  not looked at  0 in D  beyond");
         for entry in Entry::ALL {
             let counts = &self.counts[entry as usize];
-            print!("{:14} {:>6}", format!("{entry:?}"), counts[DONE]);
+            print!("{:16} {:>6}", format!("{entry:?}"), counts[DONE]);
             counts[1..=LAST_REFUSAL].iter().for_each(|count| print!(" {count:>5}"));
-            println!(" {:>8} {:>14} {:>7}", counts[REJECTED], self.passed_over[entry as usize], self.with_zero[entry as usize]);
+            let [passed_over, with_zero, with_beyond] =
+                [&self.passed_over, &self.with_zero, &self.with_beyond].map(|counts| counts[entry as usize]);
+            println!(" {:>8} {passed_over:>14} {with_zero:>7} {with_beyond:>7}", counts[REJECTED]);
         }
         println!("extractions by level: {:?}", self.levels);
         for (of, pushes) in [(format!("2 to {FEW_RECORDS}"), self.pushes[0]), (format!("over {FEW_RECORDS}"), self.pushes[1])] {
@@ -125,8 +137,9 @@ impl Tally {
         println!("calls: {}", self.total());
     }
 
-    /// Every function was done, also with a zero in the diagonal, and gave each refusal that it can, but that of a file that is too long,
-    /// and no other; verification rejected too; and numbers that a function does not look at were not looked at.
+    /// Every function was done, also with a zero in the diagonal and with any numbers beyond what the set uses, and gave each refusal that it
+    /// can, that of the kept values often, but not that of a file that is too long, and no other; verification rejected too; and numbers that
+    /// a function does not look at were not looked at.
     pub fn assert_all_reached(&self) {
         for entry in Entry::ALL {
             let mut expected = vec![DONE];
@@ -140,11 +153,14 @@ impl Tally {
             let looks_at_all = match entry {
                 Entry::Power => false,
                 entry if entry.is_of_field() => true,
-                Entry::Validate | Entry::Sizes | Entry::Permute | Entry::Unpermute | Entry::Verify => true,
+                Entry::Validate | Entry::ExchangeDiagonal | Entry::ExchangeHeight | Entry::Sizes => true,
+                Entry::Permute | Entry::Unpermute | Entry::Verify => true,
                 _ => false,
             };
             assert_eq!(self.passed_over[entry as usize] == 0, looks_at_all, "{entry:?}");
             assert!(entry.is_of_field() || self.with_zero[entry as usize] >= 100, "{entry:?}");
+            assert!(!entry.takes_set() || self.with_beyond[entry as usize] >= 100, "{entry:?}");
+            assert!(!entry.takes_set() || counts[BAD_KEPT_VALUES] >= 1_000, "{entry:?}");
         }
     }
 }
