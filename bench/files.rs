@@ -2,7 +2,8 @@
 //! holds the head alone; the plain one lays out the whole message. Both test what the proved entry tests. T is the width, known
 //! to the compiler.
 use crate::poseidon2::{add, add_word, Plain, Tuned, Version};
-use crate::trees::{validate, Rounds, Set, BAD_LENGTH, DONE};
+use crate::sets::{Set, DONE};
+use crate::trees::BAD_LENGTH;
 use std::io::Write;
 
 pub const TOO_LONG: u8 = 16;
@@ -13,7 +14,7 @@ const WORD: u64 = (1 << (8 * BYTES)) - 1;
 
 /// The number of the first refusal that applies, or 0.
 fn refusal_of<V: Version>(set: &Set, contents: &[u8], leaf: &[u64]) -> u8 {
-    match validate::<V>(set) {
+    match set.judge::<V>() {
         DONE if leaf.len() as u64 != set.node_size => BAD_LENGTH,
         DONE if contents.len() > MOST_BYTES => TOO_LONG,
         number => number,
@@ -91,11 +92,11 @@ pub fn tuned<const T: usize>(set: &Set, contents: &[u8], leaf: &mut [u64]) -> u8
     if number != DONE {
         return number;
     }
-    let (rounds, message, words) = (Rounds::of(set), Message::of(contents), T - leaf.len());
+    let (message, words) = (Message::of(contents), T - leaf.len());
     let mut state = [0; T];
     for n in 0..message.blocks(words) {
         message.add_block(n, &mut state[..words]);
-        Tuned::permute(&mut state, &rounds.diagonal, &rounds.constants, rounds.full, rounds.partial);
+        set.permute::<Tuned, T>(&mut state);
     }
     leaf.copy_from_slice(&state[..leaf.len()]);
     DONE
@@ -116,14 +117,14 @@ pub fn plain<const T: usize>(set: &Set, contents: &[u8], leaf: &mut [u64]) -> u8
     if number != DONE {
         return number;
     }
-    let (rounds, words) = (Rounds::of(set), T - leaf.len());
+    let words = T - leaf.len();
     let mut state = [0; T];
     for block in padded(contents, BYTES * words).chunks_exact(BYTES * words) {
         for (x, bytes) in state.iter_mut().zip(block.chunks_exact(BYTES)) {
             let word = bytes.iter().rev().fold(0, |word, &byte| word << 8 | byte as u64);
             *x = add(*x, word);
         }
-        Plain::permute(&mut state, &rounds.diagonal, &rounds.constants, rounds.full, rounds.partial);
+        set.permute::<Plain, T>(&mut state);
     }
     leaf.copy_from_slice(&state[..leaf.len()]);
     DONE

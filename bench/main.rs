@@ -1,21 +1,22 @@
 //! The proved library beside Rust versions of the same work, in interleaved rounds of one run. `tuned` keeps lazy numbers below
 //! 2^64 and sums in u128; `plain` brings every sum and product below p. The program prints Markdown and writes two pictures to
 //! the folder that it is handed; a second argument `quick` makes it do a tenth of the rounds, once, without the longest pushes.
-mod calls;
 mod charts;
 mod files;
 mod halves;
+mod inverses;
 mod measure;
 mod picture;
 mod poseidon2;
 mod proved;
 mod repeats;
 mod report;
+mod sets;
 mod trees;
 
 use charts::{Built, Growth};
 use measure::{Case, Times};
-use report::{Absorption, Choice, Floor, Pushed, Row};
+use report::{Absorption, Choice, Floor, Inverted, Judged, Pushed, Row};
 use trees::Sizes;
 
 /// Every width and node size, by falling width and rising arity.
@@ -66,6 +67,7 @@ const HEIGHTS: [usize; 7] = [8, 10, 12, 14, 16, 18, 20];
 const PASSES: usize = 3;
 
 /// The most that proved/tuned is to be.
+const INVERSE_TARGET: f64 = 1.03;
 const STORELESS_TARGET: f64 = 1.10;
 const PUSH_TARGET: f64 = 1.05;
 const FILE_TARGET: f64 = 1.03;
@@ -97,6 +99,8 @@ fn height_near(size: u32, arity: usize) -> usize {
 struct Bench {
     quick: bool,
     rows: Vec<Row>,
+    inverted: Vec<Inverted>,
+    judged: Vec<Judged>,
     floors: Vec<Floor>,
     absorptions: Vec<Absorption>,
     pushes: Vec<Pushed>,
@@ -112,6 +116,8 @@ impl Bench {
         let mut bench = Bench {
             quick,
             rows: vec![],
+            inverted: vec![],
+            judged: vec![],
             floors: vec![],
             absorptions: vec![],
             pushes: vec![],
@@ -119,6 +125,8 @@ impl Bench {
             builds: vec![],
             growth: vec![],
         };
+        let times = measure::inverse(bench.rounds(300), draw());
+        bench.add("inverse of a word", None, None, None, times, None);
         bench.states::<4>(draw);
         bench.states::<8>(draw);
         bench.states::<12>(draw);
@@ -147,6 +155,14 @@ impl Bench {
         let lower = |a: &mut f64, b: f64| *a = a.min(b);
         for (a, b) in self.rows.iter_mut().zip(other.rows) {
             a.times = a.times.best(b.times);
+        }
+        for (a, b) in self.inverted.iter_mut().zip(other.inverted) {
+            a.times = a.times.best(b.times);
+        }
+        for (a, b) in self.judged.iter_mut().zip(other.judged) {
+            a.added = a.added.best(b.added);
+            lower(&mut a.sizes, b.sizes);
+            lower(&mut a.former, b.former);
         }
         for (a, b) in self.floors.iter_mut().zip(other.floors) {
             lower(&mut a.verify, b.verify);
@@ -182,10 +198,18 @@ impl Bench {
         full.div_ceil(if self.quick { 10 } else { PASSES })
     }
 
-    fn add(&mut self, operation: &str, t: usize, l: Option<usize>, tree: Option<Sizes>, times: Times, target: Option<f64>) {
+    fn add(
+        &mut self,
+        operation: &str,
+        t: impl Into<Option<usize>>,
+        l: Option<usize>,
+        tree: Option<Sizes>,
+        times: Times,
+        target: Option<f64>,
+    ) {
         self.rows.push(Row {
             operation: operation.to_string(),
-            t,
+            t: t.into(),
             l,
             tree,
             times,
@@ -193,12 +217,13 @@ impl Bench {
         });
     }
 
-    /// A permutation and the halves of its external layer, a compression and a validation.
+    /// A permutation and the halves of its external layer, the inverse permutation, a compression, a validation, and the judging of a set.
     fn states<const T: usize>(&mut self, draw: &mut impl FnMut() -> u64) {
         let case = Case::<T>::new(T / 2, 16, draw);
-        let (n, l) = (self.rounds(300), Some(T / 2));
+        let (n, few, l) = (self.rounds(300), self.rounds(60), Some(T / 2));
         let target = permutation_target(T);
         case.assert_halves();
+        case.assert_inverses();
         self.add("permutation, no validation", T, None, None, case.permutation(n), Some(target));
         // A block alone has no sums.
         if T > 4 {
@@ -207,7 +232,18 @@ impl Bench {
         self.add("M4 in each block", T, None, None, case.m4_blocks(n), None);
         self.add("compression, no validation", T, l, None, case.bare_compression(n), None);
         self.add("compress", T, l, None, case.compression(n), None);
-        self.add("validate", T, l, None, case.validation(n), None);
+        let (inverse, thousand) = case.inverse_permutations(few);
+        self.add("inverse permutation", T, None, None, inverse, Some(INVERSE_TARGET));
+        let ((validate, added), (sizes, former)) = (case.validation(n), case.judging(n));
+        self.add("validate", T, l, None, validate, None);
+        self.add("sizes", T, l, Some(case.sizes), sizes, None);
+        self.inverted.push(Inverted { t: T, times: thousand });
+        self.judged.push(Judged {
+            t: T,
+            added,
+            sizes: sizes.proved,
+            former,
+        });
     }
 
     /// The trees of one shape near one size.
@@ -343,9 +379,12 @@ impl Bench {
             "permutation",
             "sums",
             "M4",
+            "inverse permutation",
+            "inverse of",
             "compression",
             "compress",
             "validate",
+            "sizes",
             "build",
             "storeless",
             "open",
@@ -371,6 +410,10 @@ impl Bench {
         );
         println!("\n### Every operation\n");
         report::print_rows(&self.rows);
+        println!("\n### A thousand inverse permutations\n");
+        report::print_inverted(&self.inverted);
+        println!("\n### Validation, and the judging of a set, beside what they were before a set kept anything\n");
+        report::print_judged(&self.judged);
         println!("\n### Verification beside the work that it cannot do without\n");
         report::print_floors(&self.floors);
         println!("\n### The leaf of a file beside its permutations alone\n");

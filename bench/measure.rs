@@ -1,10 +1,12 @@
 //! One measurement of each operation: the proved version, the tuned and the plain one in interleaved rounds.
 use crate::files;
 use crate::halves;
-use crate::poseidon2::{Plain, Tuned, Version};
+use crate::inverses::Inverting;
+use crate::poseidon2::{Plain, Tuned, Version, P};
 use crate::proved;
 use crate::repeats;
-use crate::trees::{self, places, Rounds, Set, Sizes, NOT_A_WORD, RECORD, REPEATED};
+use crate::sets::{self, Numbers, Set, BAD_KEPT_VALUES, DONE, SINGULAR};
+use crate::trees::{self, places, Sizes, NOT_A_WORD, RECORD, REPEATED};
 use std::hint::black_box;
 
 /// R_F and R_P.
@@ -15,6 +17,8 @@ pub const PARTIAL: usize = 22;
 const STATE_CALLS: usize = 400;
 const HALF_CALLS: usize = 20_000;
 const TREE_CALLS: usize = 40;
+/// Inverse permutations in a round.
+const THOUSAND: usize = 1_000;
 /// An opening takes little: a round opens each place so many times.
 const OPENINGS: usize = 10;
 /// A round times the parts of a push so many times, each time with calls for at least so many records.
@@ -47,6 +51,59 @@ impl Times {
             plain: best[2] / n,
         }
     }
+}
+
+/// The best times of a thousand inverse permutations, in seconds: of the proved version and of the tuned one.
+#[derive(Clone, Copy)]
+pub struct Thousand {
+    /// Under one set.
+    pub kept: [f64; 2],
+    /// With a validation before each.
+    pub anew: [f64; 2],
+    /// The tuned version that keeps nothing: in each D is inverted, word by word.
+    pub former: f64,
+}
+
+impl Thousand {
+    /// The better of each.
+    pub fn best(self, other: Thousand) -> Thousand {
+        Thousand {
+            kept: lower(self.kept, other.kept),
+            anew: lower(self.anew, other.anew),
+            former: self.former.min(other.former),
+        }
+    }
+}
+
+/// What validation takes for the values that a set keeps, in seconds a call.
+#[derive(Clone, Copy)]
+pub struct Added {
+    pub validate: f64,
+    /// The tuned version without these values.
+    pub former: f64,
+    /// The proved inverse of a word.
+    pub inverse: f64,
+}
+
+impl Added {
+    /// The better of each.
+    pub fn best(self, other: Added) -> Added {
+        Added {
+            validate: self.validate.min(other.validate),
+            former: self.former.min(other.former),
+            inverse: self.inverse.min(other.inverse),
+        }
+    }
+
+    /// How much longer validation takes than it did, in inversions.
+    pub fn inversions(&self) -> f64 {
+        (self.validate - self.former) / self.inverse
+    }
+}
+
+/// The lower of each.
+fn lower(a: [f64; 2], b: [f64; 2]) -> [f64; 2] {
+    [a[0].min(b[0]), a[1].min(b[1])]
 }
 
 /// The best times of a push and of its test for a place that stands twice, in seconds.
@@ -95,7 +152,6 @@ impl Tested {
 
     /// The better of each.
     pub fn best(self, other: Tested) -> Tested {
-        let lower = |a: [f64; 2], b: [f64; 2]| [a[0].min(b[0]), a[1].min(b[1])];
         Tested {
             made: self.made,
             proved: self.proved.min(other.proved),
@@ -198,6 +254,14 @@ fn race<F: Copy, const N: usize>(
     race.best.try_into().expect("a time for each version")
 }
 
+/// The inverse of a word, and of that again.
+pub fn inverse(rounds: usize, word: u64) -> Times {
+    let best = race(rounds, &[word], INVERSES, |version, _, word| {
+        (0..STATE_CALLS).for_each(|_| word[0] = version(black_box(word[0])));
+    });
+    Times::of(&best, STATE_CALLS)
+}
+
 /// Brings the best time of a call down, if so many calls take less. One before them is not timed: what it reads is then near for all.
 fn sample(best: &mut f64, calls: usize, call: impl Fn()) {
     call();
@@ -205,10 +269,13 @@ fn sample(best: &mut f64, calls: usize, call: impl Fn()) {
 }
 
 // What the versions of an operation have in common. A call goes through a pointer, so that no version is joined with its caller.
-type Permute<const T: usize> = fn(&Rounds, &mut [u64; T]);
+type Permute<const T: usize> = fn(&Set, &mut [u64; T]);
 type Half<const T: usize> = fn(&[u64; T], &mut [u64; T]);
-type BareCompress<const T: usize> = fn(&Rounds, &[u64; T], &mut [u64]);
-type Validate = fn(&Set) -> u8;
+type BareCompress<const T: usize> = fn(&Set, &[u64; T], &mut [u64]);
+type Inverse = fn(u64) -> u64;
+type Validate = fn(&Numbers, &mut Set) -> u8;
+type Unpermute = fn(&Set, &mut [u64]) -> u8;
+type Count = fn(&Set, &mut [u64; 3]) -> u8;
 type Write = fn(&Set, &[u64], &mut [u64]) -> u8;
 type Open = fn(&Set, &[u64], u64, &mut [u64]) -> u8;
 type Verify<'a> = &'a dyn Fn(&Set, &[u64], u64, &[u64], &[u64]) -> u8;
@@ -216,8 +283,17 @@ type Replace = fn(&Set, &mut [u64], u64, &[u64], &mut u64) -> u8;
 type Push = fn(&Set, &mut [u64], &[u64], &mut u64) -> u8;
 type LeafOfFile<'a> = &'a dyn Fn(&Set, &[u8], &mut [u64]) -> u8;
 
-fn permute<V: Version, const T: usize>(rounds: &Rounds, state: &mut [u64; T]) {
-    V::permute(state, &rounds.diagonal, &rounds.constants, rounds.full, rounds.partial)
+fn permute<V: Version, const T: usize>(set: &Set, state: &mut [u64; T]) {
+    set.permute::<V, T>(state)
+}
+
+// The versions of what is made of inverses.
+const INVERSES: [Inverse; 3] = [proved::inverse, Tuned::inverse, Plain::inverse];
+const VALIDATIONS: [Validate; 3] = [proved::validate, sets::validate::<Tuned>, sets::validate::<Plain>];
+const SIZES: [Count; 3] = [proved::sizes, trees::sizes::<Tuned>, trees::sizes::<Plain>];
+
+fn unpermutes<const T: usize>() -> [Unpermute; 3] {
+    [proved::unpermute, trees::unpermute::<Tuned, T>, trees::unpermute::<Plain, T>]
 }
 
 /// What a half of M_E writes.
@@ -236,6 +312,13 @@ fn m4_blocks<const T: usize>() -> [Half<T>; 3] {
     [halves::m4_blocks, Tuned::m4_blocks, Plain::m4_blocks]
 }
 
+/// Every version answers a set with this number.
+fn assert_judged(set: &Set, number: u8) {
+    for version in SIZES {
+        assert_eq!(version(set, &mut [0; 3]), number);
+    }
+}
+
 // The versions of a push.
 fn pushes<const T: usize>() -> [Push; 3] {
     [proved::push, trees::push::<Tuned, T, true>, trees::push::<Plain, T, true>]
@@ -252,8 +335,7 @@ struct Pushable {
 /// A set of seeded words, with leaves, and places with new leaves for them.
 pub struct Case<const T: usize> {
     pub sizes: Sizes,
-    diagonal: Vec<u64>,
-    constants: Vec<u64>,
+    set: Set,
     leaves: Vec<u64>,
     places: Vec<u64>,
     /// Six words for each place: one list for even rounds and one for odd, so that a change changes something.
@@ -266,32 +348,30 @@ impl<const T: usize> Case<T> {
         let mut list = |n: usize| (0..n).map(|_| draw()).collect::<Vec<u64>>();
         let (diagonal, constants, leaves) = (list(T), list(T * FULL + PARTIAL), list(sizes.leaf_words()));
         let places = list(TREE_CALLS).into_iter().map(|x| x % sizes.leaves as u64).collect();
+        let numbers = Numbers {
+            width: T as u64,
+            node_size: l as u64,
+            height: h as u64,
+            full_rounds: FULL as u64,
+            partial_rounds: PARTIAL as u64,
+            diagonal: &diagonal,
+            constants: &constants,
+        };
+        let mut set = Set::NONE;
+        assert_eq!(proved::validate(&numbers, &mut set), DONE);
         Case {
             sizes,
-            diagonal,
-            constants,
+            set,
             leaves,
             places,
             changes: [list(TREE_CALLS * 6), list(TREE_CALLS * 6)],
         }
     }
 
-    fn set(&self) -> Set<'_> {
-        Set {
-            width: T as u64,
-            node_size: self.sizes.node as u64,
-            height: self.sizes.height as u64,
-            full_rounds: FULL as u64,
-            partial_rounds: PARTIAL as u64,
-            diagonal: &self.diagonal,
-            constants: &self.constants,
-        }
-    }
-
     /// The store of the leaves.
     pub fn store(&self) -> Vec<u64> {
         let mut store = vec![0; self.sizes.store_words()];
-        assert_eq!(proved::build(&self.set(), &self.leaves, &mut store), 0);
+        assert_eq!(proved::build(&self.set, &self.leaves, &mut store), 0);
         store
     }
 
@@ -301,11 +381,10 @@ impl<const T: usize> Case<T> {
 
     /// One permutation after another, without validation.
     pub fn permutation(&self, rounds: usize) -> Times {
-        let held = Rounds::of(&self.set());
         let versions: [Permute<T>; 3] = [proved::bare_permute, permute::<Tuned, T>, permute::<Plain, T>];
         let best = race(rounds, &self.row(), versions, |version, _, buffer| {
             let state: &mut [u64; T] = buffer.try_into().unwrap();
-            (0..STATE_CALLS).for_each(|_| version(black_box(&held), state));
+            (0..STATE_CALLS).for_each(|_| version(black_box(&self.set), state));
         });
         Times::of(&best, STATE_CALLS)
     }
@@ -336,10 +415,10 @@ impl<const T: usize> Case<T> {
             starts.push([number; T]);
             starts.extend((0..T).map(|i| std::array::from_fn(|j| if i == j { number } else { row[j] })));
         }
-        let no_rounds = Rounds {
-            full: 0,
-            partial: 0,
-            ..Rounds::of(&self.set())
+        let no_rounds = Set {
+            full_rounds: 0,
+            partial_rounds: 0,
+            ..self.set.clone()
         };
         for start in starts {
             let mut whole = start;
@@ -353,7 +432,6 @@ impl<const T: usize> Case<T> {
 
     /// One compression after another, without validation. The node goes to the front of the next row.
     pub fn bare_compression(&self, rounds: usize) -> Times {
-        let held = Rounds::of(&self.set());
         let versions: [BareCompress<T>; 3] = [
             proved::bare_compress,
             trees::bare_compress::<Tuned, T>,
@@ -363,7 +441,7 @@ impl<const T: usize> Case<T> {
             let mut row = self.row();
             for _ in 0..STATE_CALLS {
                 row[..node.len()].copy_from_slice(node);
-                version(black_box(&held), &row, node);
+                version(black_box(&self.set), &row, node);
             }
         });
         Times::of(&best, STATE_CALLS)
@@ -372,40 +450,145 @@ impl<const T: usize> Case<T> {
     /// One compression after another, each with its validation.
     pub fn compression(&self, rounds: usize) -> Times {
         let versions: [Write; 3] = [proved::compress, trees::compress::<Tuned, T>, trees::compress::<Plain, T>];
-        let set = self.set();
         let best = race(rounds, &self.leaves[..self.sizes.node], versions, |version, _, node| {
             let mut row = self.row();
             for _ in 0..STATE_CALLS {
                 row[..node.len()].copy_from_slice(node);
-                assert_eq!(version(black_box(&set), &row, node), 0);
+                assert_eq!(version(black_box(&self.set), &row, node), 0);
             }
         });
         Times::of(&best, STATE_CALLS)
     }
 
-    pub fn validation(&self, rounds: usize) -> Times {
-        let versions: [Validate; 3] = [proved::validate, trees::validate::<Tuned>, trees::validate::<Plain>];
-        let set = self.set();
-        let best = race(rounds, &[], versions, |version, _, _| {
-            (0..STATE_CALLS).for_each(|_| assert_eq!(version(black_box(&set)), 0));
+    /// Validation, and in the same rounds the tuned version of what it was before a set kept anything, and the proved inverse of a word.
+    pub fn validation(&self, rounds: usize) -> (Times, Added) {
+        let numbers = self.set.numbers();
+        let validated = |version: Validate| {
+            let mut set = Set::NONE;
+            (0..STATE_CALLS).for_each(|_| assert_eq!(version(black_box(&numbers), &mut set), DONE));
+            assert!(set == self.set, "the versions keep other values");
+        };
+        let [proved, tuned, plain] = VALIDATIONS;
+        let versions: [&dyn Fn(); 5] = [
+            &|| validated(proved),
+            &|| validated(tuned),
+            &|| validated(plain),
+            &|| (0..STATE_CALLS).for_each(|_| assert_eq!(sets::former_validate::<Tuned>(black_box(&numbers)), DONE)),
+            &|| {
+                (0..STATE_CALLS).fold(self.leaves[0], |x, _| proved::inverse(black_box(x)));
+            },
+        ];
+        let best = race(rounds, &[], versions, |version, _, _| version());
+        let times = Times::of(&best, STATE_CALLS);
+        let added = Added {
+            validate: times.proved,
+            former: best[3] / STATE_CALLS as f64,
+            inverse: best[4] / STATE_CALLS as f64,
+        };
+        (times, added)
+    }
+
+    /// The sizes of the set's tree, for which the set is judged and hardly more is done; and in the same rounds the tuned version of what
+    /// they were before a set kept anything, in seconds a call.
+    pub fn judging(&self, rounds: usize) -> (Times, f64) {
+        let numbers = self.set.numbers();
+        let former = |_: &Set, counts: &mut [u64; 3]| trees::former_sizes::<Tuned>(black_box(&numbers), counts);
+        let [proved, tuned, plain] = SIZES;
+        let versions: [&dyn Fn(&Set, &mut [u64; 3]) -> u8; 4] = [&proved, &tuned, &plain, &former];
+        let best = race(rounds, &[0; 3], versions, |version, _, buffer| {
+            let counts: &mut [u64; 3] = buffer.try_into().unwrap();
+            (0..STATE_CALLS).for_each(|_| assert_eq!(version(black_box(&self.set), counts), DONE));
         });
-        Times::of(&best, STATE_CALLS)
+        (Times::of(&best, STATE_CALLS), best[3] / STATE_CALLS as f64)
+    }
+
+    /// A thousand inverse permutations, each of the state that the last one made: under one set; with a validation before each; and by the
+    /// tuned version that keeps nothing.
+    pub fn inverse_permutations(&self, rounds: usize) -> (Times, Thousand) {
+        let numbers = self.set.numbers();
+        let anew = |validate: Validate, unpermute: Unpermute, state: &mut [u64]| {
+            let mut set = Set::NONE;
+            assert_eq!(validate(black_box(&numbers), &mut set), DONE);
+            unpermute(&set, state)
+        };
+        let ([validate, tuned_validate, _], [proved, tuned, plain]) = (VALIDATIONS, unpermutes::<T>());
+        let versions: [&dyn Fn(&Set, &mut [u64]) -> u8; 6] = [
+            &proved,
+            &tuned,
+            &plain,
+            &|_, state| anew(validate, proved, state),
+            &|_, state| anew(tuned_validate, tuned, state),
+            &|_, state| trees::former_unpermute::<Tuned, T>(black_box(&numbers), state),
+        ];
+        let best = race(rounds, &self.row(), versions, |version, _, state| {
+            (0..THOUSAND).for_each(|_| assert_eq!(version(black_box(&self.set), state), DONE));
+        });
+        let thousand = Thousand {
+            kept: [best[0], best[1]],
+            anew: [best[3], best[4]],
+            former: best[5],
+        };
+        (Times::of(&best, THOUSAND), thousand)
+    }
+
+    /// With no 0 in D, and with one at each place: the versions keep the same values, their inverse permutations take a permutation back,
+    /// and they refuse kept values of which one is another. And they refuse a D whose M_I has no inverse.
+    pub fn assert_inverses(&self) {
+        for zero in (0..=T).rev() {
+            let mut set = self.set.clone();
+            if zero < T {
+                set.diagonal[zero] = 0;
+            }
+            let made = VALIDATIONS.map(|version| {
+                let mut made = Set::NONE;
+                assert_eq!(version(&set.numbers(), &mut made), DONE);
+                made
+            });
+            assert!(
+                made[1..] == [made[0].clone(), made[0].clone()],
+                "the versions keep other values"
+            );
+            let [set, ..] = made;
+            let (row, mut permuted) = (self.row(), self.row());
+            permute::<Plain, T>(&set, &mut permuted);
+            for version in unpermutes::<T>() {
+                let mut state = permuted;
+                assert_eq!(version(&set, &mut state), DONE);
+                assert!(state == row, "a permutation is not taken back");
+            }
+            let mut state = permuted;
+            assert_eq!(trees::former_unpermute::<Tuned, T>(&set.numbers(), &mut state), DONE);
+            assert!(state == row, "a permutation is not taken back");
+            for i in 0..12 {
+                let mut other = set.clone();
+                other.kept.inverses[i] ^= 1;
+                assert_judged(&other, if i < T { BAD_KEPT_VALUES } else { DONE });
+            }
+            let mut other = set.clone();
+            other.kept.total_inverse ^= 1;
+            assert_judged(&other, BAD_KEPT_VALUES);
+        }
+        let mut singular = self.set.clone();
+        let others = singular.kept.inverses[1..T].iter().fold(1, |n, &e| Plain::mul_add(1, e, n));
+        singular.diagonal[0] = P - Plain::inverse(others);
+        assert_judged(&singular, SINGULAR);
+        for version in VALIDATIONS {
+            assert_eq!(version(&singular.numbers(), &mut Set::NONE.clone()), SINGULAR);
+        }
     }
 
     pub fn build(&self, rounds: usize) -> Times {
         let versions: [Write; 3] = [proved::build, trees::build::<Tuned, T>, trees::build::<Plain, T>];
-        let set = self.set();
         let best = race(rounds, &vec![1; self.sizes.store_words()], versions, |version, _, store| {
-            assert_eq!(version(black_box(&set), &self.leaves, store), 0);
+            assert_eq!(version(black_box(&self.set), &self.leaves, store), 0);
         });
         Times::of(&best, 1)
     }
 
     /// The proved build by itself, in seconds.
     pub fn proved_build(&self, rounds: usize) -> f64 {
-        let set = self.set();
         let [best] = race(rounds, &vec![1; self.sizes.store_words()], [()], |_, _, store| {
-            assert_eq!(proved::build(&set, &self.leaves, store), 0);
+            assert_eq!(proved::build(&self.set, &self.leaves, store), 0);
         });
         best
     }
@@ -416,42 +599,41 @@ impl<const T: usize> Case<T> {
             trees::storeless_root::<Tuned, T>,
             trees::storeless_root::<Plain, T>,
         ];
-        let set = self.set();
         let best = race(rounds, &vec![1; self.sizes.node], versions, |version, _, node| {
-            assert_eq!(version(black_box(&set), &self.leaves, node), 0);
+            assert_eq!(version(black_box(&self.set), &self.leaves, node), 0);
         });
         Times::of(&best, 1)
     }
 
     pub fn open(&self, rounds: usize, store: &[u64]) -> Times {
         let versions: [Open; 3] = [proved::open, trees::open::<Tuned, T>, trees::open::<Plain, T>];
-        let (set, words) = (self.set(), self.sizes.opening_words());
+        let words = self.sizes.opening_words();
         let best = race(rounds, &vec![1; TREE_CALLS * words], versions, |version, _, openings| {
             for _ in 0..OPENINGS {
                 for (&place, siblings) in self.places.iter().zip(openings.chunks_exact_mut(words)) {
-                    assert_eq!(version(black_box(&set), store, place, siblings), 0);
+                    assert_eq!(version(black_box(&self.set), store, place, siblings), 0);
                 }
             }
         });
         Times::of(&best, TREE_CALLS * OPENINGS)
     }
 
-    /// Verifications, and in the same rounds the proved work that each cannot do without: a validation and h compressions.
+    /// Verifications, and in the same rounds the proved work that each cannot do without: the set is judged, as it is where sizes are asked
+    /// for, and h compressions.
     pub fn verify(&self, rounds: usize, store: &[u64]) -> (Times, f64) {
-        let (set, words, l) = (self.set(), self.sizes.opening_words(), self.sizes.node);
+        let (words, l) = (self.sizes.opening_words(), self.sizes.node);
         let mut openings = vec![0; TREE_CALLS * words];
         for (&place, siblings) in self.places.iter().zip(openings.chunks_exact_mut(words)) {
-            assert_eq!(proved::open(&set, store, place, siblings), 0);
+            assert_eq!(proved::open(&self.set, store, place, siblings), 0);
         }
-        let held = Rounds::of(&set);
         let floor = |set: &Set, _: &[u64], _: u64, leaf: &[u64], _: &[u64]| {
             let (mut row, mut node) = (self.row(), [0; T]);
             node[..l].copy_from_slice(leaf);
             for _ in 0..self.sizes.height {
                 row[..l].copy_from_slice(&node[..l]);
-                proved::bare_compress(black_box(&held), &row, &mut node[..l]);
+                proved::bare_compress(black_box(set), &row, &mut node[..l]);
             }
-            proved::validate(set)
+            proved::sizes(set, &mut [0; 3])
         };
         let versions: [Verify; 4] = [
             &proved::verify,
@@ -463,7 +645,7 @@ impl<const T: usize> Case<T> {
         let best = race(rounds, &[], versions, |version, _, _| {
             for (&place, siblings) in self.places.iter().zip(openings.chunks_exact(words)) {
                 let at = place as usize * l;
-                assert_eq!(version(black_box(&set), root, place, &store[at..at + l], siblings), 0);
+                assert_eq!(version(black_box(&self.set), root, place, &store[at..at + l], siblings), 0);
             }
         });
         (Times::of(&best, TREE_CALLS), best[3] / TREE_CALLS as f64)
@@ -471,12 +653,12 @@ impl<const T: usize> Case<T> {
 
     pub fn replace(&self, rounds: usize, store: &[u64]) -> Times {
         let versions: [Replace; 3] = [proved::replace, trees::replace::<Tuned, T>, trees::replace::<Plain, T>];
-        let (set, l) = (self.set(), self.sizes.node);
+        let l = self.sizes.node;
         let best = race(rounds, store, versions, |version, round, store| {
             for (&place, leaf) in self.places.iter().zip(self.changes[round % 2].chunks_exact(6)) {
                 let mut made = 0;
-                assert_eq!(version(black_box(&set), store, place, &leaf[..l], &mut made), 0);
-                assert_eq!(made, set.height);
+                assert_eq!(version(black_box(&self.set), store, place, &leaf[..l], &mut made), 0);
+                assert_eq!(made, self.set.height);
             }
         });
         Times::of(&best, TREE_CALLS)
@@ -536,14 +718,14 @@ impl<const T: usize> Case<T> {
 
     /// One version's push of a list, with the compressions that it is to make.
     fn push_once(&self, version: Push, store: &mut [u64], list: &[u64], nodes: u64) {
-        let (set, mut made) = (self.set(), 0);
-        assert_eq!(version(black_box(&set), store, list, &mut made), 0);
+        let mut made = 0;
+        assert_eq!(version(black_box(&self.set), store, list, &mut made), 0);
         assert_eq!(made, nodes);
     }
 
     /// Every version's push leaves what its records leave that are done singly, and makes a compression for each node above them.
     pub fn assert_pushes(&self, store: &[u64], draw: &mut impl FnMut() -> u64) {
-        let (set, l, leaves) = (self.set(), self.sizes.node, self.sizes.leaves);
+        let (l, leaves) = (self.sizes.node, self.sizes.leaves);
         let most = leaves.min(2_000);
         let counts = [0, 1, 2, leaves / 2, leaves, 20, 100, 1_000];
         for count in counts.into_iter().filter(|&count| count <= most) {
@@ -552,8 +734,11 @@ impl<const T: usize> Case<T> {
                 let (mut singly, list) = (store.to_vec(), &pushed.lists[0]);
                 for record in list.chunks_exact(RECORD) {
                     let mut made = 0;
-                    assert_eq!(proved::replace(&set, &mut singly, record[0], &record[1..1 + l], &mut made), 0);
-                    assert_eq!(made, set.height);
+                    assert_eq!(
+                        proved::replace(&self.set, &mut singly, record[0], &record[1..1 + l], &mut made),
+                        0
+                    );
+                    assert_eq!(made, self.set.height);
                 }
                 for version in pushes::<T>() {
                     let mut left = store.to_vec();
@@ -583,7 +768,7 @@ impl<const T: usize> Case<T> {
         draw: &mut impl FnMut() -> u64,
     ) -> Tested {
         let Pushable { nodes, lists } = self.pushable(count, rising, draw);
-        let (set, leaves, list) = (self.set(), self.sizes.leaves, &lists[0]);
+        let (leaves, list) = (self.sizes.leaves, &lists[0]);
         let whole = count == leaves;
         let built = lists.each_ref().map(|list| if whole { self.changed(list) } else { vec![] });
         let mut twice = list.clone();
@@ -605,17 +790,17 @@ impl<const T: usize> Case<T> {
         while race.goes_on(rounds) {
             race.round(|version, round, store| match version {
                 Some(push) => self.push_once(push, store, &lists[round % 2], nodes),
-                None => assert_eq!(proved::build(black_box(&set), &built[round % 2], store), 0),
+                None => assert_eq!(proved::build(black_box(&self.set), &built[round % 2], store), 0),
             });
             for _ in 0..SAMPLES {
                 for (best, with) in passes.iter_mut().zip([false, true]) {
                     sample(best, calls, || {
-                        assert!(repeats::first_pass(black_box(&set), list, leaves, with))
+                        assert!(repeats::first_pass(black_box(&self.set), list, leaves, with))
                     });
                 }
                 if let Some(search) = &mut search {
                     sample(&mut search.alone, calls, || {
-                        assert!(repeats::search(black_box(&set), list, leaves))
+                        assert!(repeats::search(black_box(&self.set), list, leaves))
                     });
                     self.refused_pushes(&mut search.refused, &mut race.buffers[0], &twice);
                 }
@@ -635,11 +820,11 @@ impl<const T: usize> Case<T> {
     /// Pushes of a list that has a place twice: one that is refused before the search, for the last number of the store, and one that is
     /// refused by it. The store stays as it is.
     fn refused_pushes(&self, best: &mut [f64; 2], store: &mut [u64], twice: &[u64]) {
-        let (set, last) = (self.set(), store.len() - 1);
+        let last = store.len() - 1;
         let kept = store[last];
         for (best, (number, refusal)) in best.iter_mut().zip([(u64::MAX, NOT_A_WORD), (kept, REPEATED)]) {
             store[last] = number;
-            let taken = timed(|| assert_eq!(proved::push(black_box(&set), store, twice, &mut 0), refusal));
+            let taken = timed(|| assert_eq!(proved::push(black_box(&self.set), store, twice, &mut 0), refusal));
             *best = best.min(taken);
         }
     }
@@ -653,7 +838,7 @@ impl<const T: usize> Case<T> {
             for from in [0, count / 2 - 1, count - 2] {
                 records[last] = records[from * RECORD];
                 for version in pushes::<T>() {
-                    assert_eq!(version(&self.set(), &mut left, &records, &mut 0), REPEATED);
+                    assert_eq!(version(&self.set, &mut left, &records, &mut 0), REPEATED);
                     assert!(left == store, "a refused push wrote to the store");
                 }
             }
@@ -668,19 +853,18 @@ impl<const T: usize> Case<T> {
     /// The leaf of a file, and in the same rounds the proved work that it cannot do without: a permutation for each message
     /// block, each of the state that the last one made. These make no leaf; the one that is known is written, and so compared.
     pub fn leaf_of_file(&self, rounds: usize, contents: &[u8]) -> (Times, f64) {
-        let (set, blocks) = (self.set(), self.blocks(contents));
-        let (held, mut known) = (Rounds::of(&set), vec![0; self.sizes.node]);
-        assert_eq!(files::plain::<T>(&set, contents, &mut known), 0);
-        let alone = |_: &Set, _: &[u8], leaf: &mut [u64]| {
+        let (blocks, mut known) = (self.blocks(contents), vec![0; self.sizes.node]);
+        assert_eq!(files::plain::<T>(&self.set, contents, &mut known), 0);
+        let alone = |set: &Set, _: &[u8], leaf: &mut [u64]| {
             let mut state = self.row();
-            (0..blocks).for_each(|_| proved::bare_permute(black_box(&held), &mut state));
+            (0..blocks).for_each(|_| proved::bare_permute(black_box(set), &mut state));
             black_box(state);
             leaf.copy_from_slice(&known);
             0
         };
         let versions: [LeafOfFile; 4] = [&proved::leaf_of_file, &files::tuned::<T>, &files::plain::<T>, &alone];
         let best = race(rounds, &vec![1; self.sizes.node], versions, |version, _, leaf| {
-            assert_eq!(version(black_box(&set), contents, leaf), 0);
+            assert_eq!(version(black_box(&self.set), contents, leaf), 0);
         });
         (Times::of(&best, 1), best[3])
     }

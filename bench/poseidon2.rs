@@ -63,7 +63,7 @@ pub fn add_word(a: u64, b: u64) -> u64 {
 
 /// Below 2^64, congruent to x.
 #[inline(always)]
-fn reduce(x: u128) -> u64 {
+pub fn reduce(x: u128) -> u64 {
     let (low, high) = (x as u64, (x >> 64) as u64);
     let (mut rest, borrow) = low.overflowing_sub(high >> 32);
     if borrow {
@@ -109,11 +109,11 @@ macro_rules! m4_blocks {
 }
 
 /// Words below p after every sum and product.
-mod plain {
+pub mod plain {
     use super::*;
 
     #[inline(always)]
-    fn mul(a: u64, b: u64) -> u64 {
+    pub fn mul(a: u64, b: u64) -> u64 {
         residue(reduce(a as u128 * b as u128))
     }
 
@@ -183,12 +183,12 @@ mod plain {
 }
 
 /// Lazy numbers: below 2^64, sums in u128, one reduction a word.
-mod tuned {
+pub mod tuned {
     use super::*;
 
     /// x below 2^96
     #[inline(always)]
-    fn reduce_small(x: u128) -> u64 {
+    pub fn reduce_small(x: u128) -> u64 {
         let (sum, carry) = (x as u64).overflowing_add((x >> 64) as u64 * EPSILON);
         if carry {
             sum.wrapping_add(EPSILON)
@@ -198,7 +198,7 @@ mod tuned {
     }
 
     #[inline(always)]
-    fn mul(a: u64, b: u64) -> u64 {
+    pub fn mul(a: u64, b: u64) -> u64 {
         reduce(a as u128 * b as u128)
     }
 

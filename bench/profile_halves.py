@@ -23,11 +23,12 @@ SOURCE = """
 #include "opening_tree.h"
 #include <stdlib.h>
 int main(int count, char **words) {
-    uint64_t diagonal[12], constants[118], state[12];
+    uint64_t diagonal[12], constants[118], state[12], set[OPENING_TREE_SET_SIZE];
     for (int i = 0; i < 12; i++) diagonal[i] = 3 * i + 2, state[i] = i;
     for (int i = 0; i < 118; i++) constants[i] = 1000003 * (uint64_t)i;
+    if (opening_tree_validate(T, 1, 1, FULL, PARTIAL, diagonal, T, constants, T * FULL + PARTIAL, set)) return 1;
     for (int i = 0; i < atoi(words[count - 1]); i++)
-        if (opening_tree_permute(T, 1, 1, FULL, PARTIAL, diagonal, T, constants, T * FULL + PARTIAL, state, T)) return 1;
+        if (opening_tree_permute(set, state, T)) return 1;
     return 0;
 }
 """

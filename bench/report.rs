@@ -1,17 +1,32 @@
 //! What the program prints: Markdown tables, and the machine.
-use crate::measure::{Tested, Times};
+use crate::measure::{Added, Tested, Thousand, Times};
 use crate::trees::Sizes;
 use std::fs::read_to_string;
 
 /// What one operation takes.
 pub struct Row {
     pub operation: String,
-    pub t: usize,
+    pub t: Option<usize>,
     pub l: Option<usize>,
     pub tree: Option<Sizes>,
     pub times: Times,
     /// The most that proved/tuned is to be.
     pub target: Option<f64>,
+}
+
+/// A thousand inverse permutations.
+pub struct Inverted {
+    pub t: usize,
+    pub times: Thousand,
+}
+
+/// Validation, and the judging of a set that is handed in, beside what they were before a set kept anything.
+pub struct Judged {
+    pub t: usize,
+    pub added: Added,
+    /// The sizes of a set's tree, and the tuned version of what they were.
+    pub sizes: f64,
+    pub former: f64,
 }
 
 /// A verification beside the work that it cannot do without.
@@ -20,7 +35,7 @@ pub struct Floor {
     pub l: usize,
     pub h: usize,
     pub verify: f64,
-    /// h compressions and one validation.
+    /// h compressions and one judging of the set.
     pub floor: f64,
 }
 
@@ -72,6 +87,10 @@ pub struct Choice {
 }
 
 const FLOOR_TARGET: f64 = 1.05;
+/// The most that validation is to take longer than it did, in inversions of a word, and the most that the judging of a set over what it was is
+/// to be.
+const INVERSIONS_TARGET: f64 = 2.0;
+const JUDGING_TARGET: f64 = 1.5;
 /// The most that a push of all leaves over a build of them is to be.
 const WHOLE_TARGET: f64 = 1.10;
 /// The most that the test for a place that stands twice is to be, in per cent of the push, and in nanoseconds a record where there are
@@ -127,13 +146,14 @@ pub fn print_rows(rows: &[Row]) {
     println!("| operation | t | l | h | leaves | proved | proved/tuned | proved/plain | target |");
     println!("|---|--:|--:|--:|--:|--:|--:|--:|---|");
     for r in rows {
-        let (l, h, leaves) = (
+        let (t, l, h, leaves) = (
+            or_blank(r.t),
             or_blank(r.l),
             or_blank(r.tree.map(|s| s.height)),
             or_blank(r.tree.map(|s| s.leaves)),
         );
         let Times { proved, tuned, plain } = r.times;
-        let (name, t, time, by_tuned, by_plain) = (&r.operation, r.t, time(proved), proved / tuned, proved / plain);
+        let (name, time, by_tuned, by_plain) = (&r.operation, time(proved), proved / tuned, proved / plain);
         let target = mark(by_tuned, r.target);
         println!("| {name} | {t} | {l} | {h} | {leaves} | {time} | {by_tuned:.3} | {by_plain:.3} | {target} |");
     }
@@ -150,8 +170,55 @@ fn print_met(ratios: &[(f64, f64)]) {
     println!("\n{met} of {} targets met.", ratios.len());
 }
 
+pub fn print_inverted(inverted: &[Inverted]) {
+    println!(
+        "| t | proved | tuned | proved, a validation before each | tuned, a validation before each | tuned, D inverted in each \
+         | proved, without these validations/with | tuned, without inverting D/with |"
+    );
+    println!("|--:|--:|--:|--:|--:|--:|--:|--:|");
+    for i in inverted {
+        let Thousand { kept, anew, former } = i.times;
+        println!(
+            "| {} | {} | {} | {} | {} | {} | {:.3} | {:.3} |",
+            i.t,
+            time(kept[0]),
+            time(kept[1]),
+            time(anew[0]),
+            time(anew[1]),
+            time(former),
+            kept[0] / anew[0],
+            kept[1] / former
+        );
+    }
+}
+
+pub fn print_judged(judged: &[Judged]) {
+    println!(
+        "| t | validation before, tuned | validate | inverse of a word | longer by, in inversions | target \
+         | sizes before, tuned | sizes | now/before | target |"
+    );
+    println!("|--:|--:|--:|--:|--:|---|--:|--:|--:|---|");
+    let mut aimed = vec![];
+    for j in judged {
+        let (added, inversions, ratio) = (j.added, j.added.inversions(), j.sizes / j.former);
+        aimed.extend([(inversions, INVERSIONS_TARGET), (ratio, JUDGING_TARGET)]);
+        println!(
+            "| {} | {} | {} | {} | {inversions:.3} | {} | {} | {} | {ratio:.3} | {} |",
+            j.t,
+            time(added.former),
+            time(added.validate),
+            time(added.inverse),
+            mark(inversions, Some(INVERSIONS_TARGET)),
+            time(j.former),
+            time(j.sizes),
+            mark(ratio, Some(JUDGING_TARGET)),
+        );
+    }
+    print_met(&aimed);
+}
+
 pub fn print_floors(floors: &[Floor]) {
-    println!("| t | l | h | verify | h compressions and one validation | ratio | target |");
+    println!("| t | l | h | verify | h compressions and one judging of the set | ratio | target |");
     println!("|--:|--:|--:|--:|--:|--:|---|");
     for f in floors {
         let ratio = f.verify / f.floor;

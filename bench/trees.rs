@@ -1,20 +1,10 @@
-//! The library's entries in Rust, over either version of the arithmetic. Each does what the proved entry does: it validates the set,
+//! The library's entries in Rust, over either version of the arithmetic. Each does what the proved entry does: it judges the set,
 //! tests lengths, places and words, and that no place of a push stands twice, and leaves every buffer as it was where it refuses. A push
 //! compresses every node above its places once. T is the width, known to the compiler.
-use crate::poseidon2::{add, residue, Plain, Tuned, Version, P};
+use crate::inverses::{kept_singly, Inverting};
+use crate::poseidon2::{add, Plain, Tuned, Version};
+use crate::sets::{all_words, former_validate, Numbers, Set, DONE, SINGULAR};
 
-/// A parameter set, as it is handed in.
-pub struct Set<'a> {
-    pub width: u64,
-    pub node_size: u64,
-    pub height: u64,
-    pub full_rounds: u64,
-    pub partial_rounds: u64,
-    pub diagonal: &'a [u64],
-    pub constants: &'a [u64],
-}
-
-pub const DONE: u8 = 0;
 pub const REJECTED: u8 = 255;
 pub const BAD_LENGTH: u8 = 10;
 pub const BAD_PLACE: u8 = 11;
@@ -30,72 +20,6 @@ const WINDOW: u64 = 1 << 20;
 const MARK: u64 = u64::MAX;
 /// On a level that has more nodes for each record than this, a push goes over its records, and on the others over the nodes.
 const SPARSE: usize = 8;
-
-/// Four numbers a turn, as the library does it, and then the last few.
-fn all_words(numbers: &[u64]) -> bool {
-    let words = |numbers: &[u64]| numbers.iter().all(|&x| x < P);
-    let mut fours = numbers.chunks_exact(4);
-    fours.all(words) && words(fours.remainder())
-}
-
-fn bad_height(arity: u64, height: u64) -> bool {
-    if height > 32 {
-        return true;
-    }
-    let mut leaves = 1u64;
-    for _ in 0..height {
-        leaves *= arity;
-        if leaves > 1 << 32 {
-            return true;
-        }
-    }
-    false
-}
-
-/// Whether 9 refuses a D with one 0 at most: 1 and the inverses of its words, added up, times the product of the words; so without an
-/// inversion. With a 0 the product of the other words is left.
-fn bad_diagonal<V: Version>(diagonal: &[u64]) -> bool {
-    let (mut all, mut but_one) = (1, 0);
-    for &d in diagonal {
-        but_one = V::mul_add(but_one, d, all);
-        all = V::mul_add(all, d, 0);
-    }
-    add(residue(all), residue(but_one)) == 0
-}
-
-/// The number of the first refusal that applies to the set, or 0.
-#[inline(never)]
-pub fn validate<V: Version>(set: &Set) -> u8 {
-    let (t, l) = (set.width, set.node_size);
-    if t != 4 && t != 8 && t != 12 {
-        return 1;
-    }
-    if l == 0 || t % l != 0 || t / l < 2 {
-        return 2;
-    }
-    if set.full_rounds % 2 == 1 || set.full_rounds == 0 || set.full_rounds > 12 {
-        return 3;
-    }
-    if set.partial_rounds > 64 {
-        return 4;
-    }
-    if bad_height(t / l, set.height) {
-        return 5;
-    }
-    if set.diagonal.len() as u64 != t || set.constants.len() as u64 != t * set.full_rounds + set.partial_rounds {
-        return 6;
-    }
-    if !all_words(set.diagonal) || !all_words(set.constants) {
-        return 7;
-    }
-    if set.diagonal.iter().filter(|&&d| d == 0).count() > 1 {
-        return 8;
-    }
-    if bad_diagonal::<V>(set.diagonal) {
-        return 9;
-    }
-    DONE
-}
 
 /// The sizes of the tree of a set.
 #[derive(Clone, Copy)]
@@ -120,11 +44,11 @@ impl Sizes {
     }
 
     fn of(set: &Set) -> Sizes {
-        Sizes::new(
-            (set.width / set.node_size) as usize,
-            set.node_size as usize,
-            set.height as usize,
-        )
+        Sizes::of_numbers(set.width, set.node_size, set.height)
+    }
+
+    fn of_numbers(width: u64, node_size: u64, height: u64) -> Sizes {
+        Sizes::new((width / node_size) as usize, node_size as usize, height as usize)
     }
 
     pub fn leaf_words(&self) -> usize {
@@ -142,6 +66,11 @@ impl Sizes {
 
     pub fn opening_words(&self) -> usize {
         self.height * self.beside()
+    }
+
+    /// How many numbers the leaves, a store and an opening have.
+    fn counts(&self) -> [u64; 3] {
+        [self.leaf_words(), self.store_words(), self.opening_words()].map(|count| count as u64)
     }
 
     /// Where the words of node `leaves` + n begin, which row n is compressed to.
@@ -190,32 +119,19 @@ impl Sizes {
     }
 }
 
-/// The lists of a set in their places, and its rounds.
-pub struct Rounds {
-    pub diagonal: [u64; 12],
-    pub constants: [u64; 208],
-    pub full: usize,
-    pub partial: usize,
-}
-
-impl Rounds {
-    pub fn of(set: &Set) -> Rounds {
-        let (mut diagonal, mut constants) = ([0; 12], [0; 208]);
-        diagonal[..set.diagonal.len()].copy_from_slice(set.diagonal);
-        constants[..set.constants.len()].copy_from_slice(set.constants);
-        Rounds {
-            diagonal,
-            constants,
-            full: set.full_rounds as usize,
-            partial: set.partial_rounds as usize,
-        }
+impl Set {
+    /// One permutation, without any test.
+    #[inline(always)]
+    pub fn permute<V: Version, const T: usize>(&self, state: &mut [u64; T]) {
+        let (full, partial) = (self.full_rounds as usize, self.partial_rounds as usize);
+        V::permute(state, &self.diagonal, &self.constants, full, partial);
     }
 
     /// The permutation of a row with the row added. A node is its first l words.
     #[inline(always)]
     fn compressed<V: Version, const T: usize>(&self, row: &[u64; T]) -> [u64; T] {
         let mut state = *row;
-        V::permute(&mut state, &self.diagonal, &self.constants, self.full, self.partial);
+        self.permute::<V, T>(&mut state);
         std::array::from_fn(|i| add(state[i], row[i]))
     }
 
@@ -266,14 +182,14 @@ impl Rounds {
 
 /// One compression, without any test.
 #[inline(never)]
-pub fn bare_compress<V: Version, const T: usize>(rounds: &Rounds, row: &[u64; T], node: &mut [u64]) {
-    let words = rounds.compressed::<V, T>(row);
+pub fn bare_compress<V: Version, const T: usize>(set: &Set, row: &[u64; T], node: &mut [u64]) {
+    let words = set.compressed::<V, T>(row);
     node.copy_from_slice(&words[..node.len()]);
 }
 
 #[inline(never)]
 pub fn compress<V: Version, const T: usize>(set: &Set, state: &[u64], node: &mut [u64]) -> u8 {
-    let number = validate::<V>(set);
+    let number = set.judge::<V>();
     if number != DONE {
         return number;
     }
@@ -284,13 +200,71 @@ pub fn compress<V: Version, const T: usize>(set: &Set, state: &[u64], node: &mut
     if !all_words(state) {
         return NOT_A_WORD;
     }
-    bare_compress::<V, T>(&Rounds::of(set), words, node);
+    bare_compress::<V, T>(set, words, node);
+    DONE
+}
+
+/// The state whose permutation is given, in its place.
+#[inline(never)]
+pub fn unpermute<V: Inverting, const T: usize>(set: &Set, state: &mut [u64]) -> u8 {
+    let number = set.judge::<V>();
+    if number != DONE {
+        return number;
+    }
+    let Ok(words) = <&mut [u64; T]>::try_from(state) else {
+        return BAD_LENGTH;
+    };
+    if !all_words(words) {
+        return NOT_A_WORD;
+    }
+    let (full, partial) = (set.full_rounds as usize, set.partial_rounds as usize);
+    V::unpermute(words, &set.kept, set.used_constants(), full, partial);
+    DONE
+}
+
+/// The same as it was before a set kept anything: D is inverted in every call, word by word.
+#[inline(never)]
+pub fn former_unpermute<V: Inverting, const T: usize>(numbers: &Numbers, state: &mut [u64]) -> u8 {
+    let number = former_validate::<V>(numbers);
+    if number != DONE {
+        return number;
+    }
+    let Ok(words) = <&mut [u64; T]>::try_from(state) else {
+        return BAD_LENGTH;
+    };
+    if !all_words(words) {
+        return NOT_A_WORD;
+    }
+    let Some(kept) = kept_singly::<V>(numbers.diagonal) else {
+        return SINGULAR;
+    };
+    let (full, partial) = (numbers.full_rounds as usize, numbers.partial_rounds as usize);
+    V::unpermute(words, &kept, numbers.constants, full, partial);
     DONE
 }
 
 #[inline(never)]
+pub fn sizes<V: Version>(set: &Set, counts: &mut [u64; 3]) -> u8 {
+    let number = set.judge::<V>();
+    if number == DONE {
+        *counts = Sizes::of(set).counts();
+    }
+    number
+}
+
+/// The same as it was before a set kept anything.
+#[inline(never)]
+pub fn former_sizes<V: Version>(numbers: &Numbers, counts: &mut [u64; 3]) -> u8 {
+    let number = former_validate::<V>(numbers);
+    if number == DONE {
+        *counts = Sizes::of_numbers(numbers.width, numbers.node_size, numbers.height).counts();
+    }
+    number
+}
+
+#[inline(never)]
 pub fn build<V: Version, const T: usize>(set: &Set, leaves: &[u64], store: &mut [u64]) -> u8 {
-    let number = validate::<V>(set);
+    let number = set.judge::<V>();
     if number != DONE {
         return number;
     }
@@ -301,15 +275,14 @@ pub fn build<V: Version, const T: usize>(set: &Set, leaves: &[u64], store: &mut 
     if !all_words(leaves) {
         return NOT_A_WORD;
     }
-    let rounds = Rounds::of(set);
     store[..leaves.len()].copy_from_slice(leaves);
-    (0..sizes.inner).for_each(|n| rounds.rewrite::<V, T>(&sizes, store, n));
+    (0..sizes.inner).for_each(|n| set.rewrite::<V, T>(&sizes, store, n));
     DONE
 }
 
 #[inline(never)]
 pub fn storeless_root<V: Version, const T: usize>(set: &Set, leaves: &[u64], node: &mut [u64]) -> u8 {
-    let number = validate::<V>(set);
+    let number = set.judge::<V>();
     if number != DONE {
         return number;
     }
@@ -320,14 +293,14 @@ pub fn storeless_root<V: Version, const T: usize>(set: &Set, leaves: &[u64], nod
     if !all_words(leaves) {
         return NOT_A_WORD;
     }
-    let root = Rounds::of(set).node::<V, T>(&sizes, leaves, sizes.height, 0);
+    let root = set.node::<V, T>(&sizes, leaves, sizes.height, 0);
     node.copy_from_slice(&root[..sizes.node]);
     DONE
 }
 
 #[inline(never)]
 pub fn open<V: Version, const T: usize>(set: &Set, store: &[u64], place: u64, siblings: &mut [u64]) -> u8 {
-    let number = validate::<V>(set);
+    let number = set.judge::<V>();
     if number != DONE {
         return number;
     }
@@ -351,7 +324,7 @@ pub fn open<V: Version, const T: usize>(set: &Set, store: &[u64], place: u64, si
 
 #[inline(never)]
 pub fn verify<V: Version, const T: usize>(set: &Set, root: &[u64], place: u64, leaf: &[u64], siblings: &[u64]) -> u8 {
-    let number = validate::<V>(set);
+    let number = set.judge::<V>();
     if number != DONE {
         return number;
     }
@@ -365,7 +338,6 @@ pub fn verify<V: Version, const T: usize>(set: &Set, root: &[u64], place: u64, l
     if !all_words(root) || !all_words(leaf) || !all_words(siblings) {
         return NOT_A_WORD;
     }
-    let rounds = Rounds::of(set);
     let (mut own, mut row) = ([0; T], [0; T]);
     own[..sizes.node].copy_from_slice(leaf);
     for ((_, child), part) in sizes.path(place as usize).zip(siblings.chunks_exact(sizes.beside())) {
@@ -373,7 +345,7 @@ pub fn verify<V: Version, const T: usize>(set: &Set, root: &[u64], place: u64, l
         row[..at].copy_from_slice(&part[..at]);
         row[at..behind].copy_from_slice(&own[..sizes.node]);
         row[behind..].copy_from_slice(&part[at..]);
-        own = rounds.compressed::<V, T>(&row);
+        own = set.compressed::<V, T>(&row);
     }
     if &own[..sizes.node] == root {
         DONE
@@ -384,7 +356,7 @@ pub fn verify<V: Version, const T: usize>(set: &Set, root: &[u64], place: u64, l
 
 #[inline(never)]
 pub fn replace<V: Version, const T: usize>(set: &Set, store: &mut [u64], place: u64, leaf: &[u64], made: &mut u64) -> u8 {
-    let number = validate::<V>(set);
+    let number = set.judge::<V>();
     if number != DONE {
         return number;
     }
@@ -398,7 +370,7 @@ pub fn replace<V: Version, const T: usize>(set: &Set, store: &mut [u64], place: 
     if !all_words(leaf) || !sizes.siblings_are_words::<T>(store, place as usize) {
         return NOT_A_WORD;
     }
-    *made = Rounds::of(set).replace::<V, T>(&sizes, store, place as usize, leaf);
+    *made = set.replace::<V, T>(&sizes, store, place as usize, leaf);
     DONE
 }
 
@@ -458,13 +430,13 @@ fn repeats(records: &[u64], leaves: u64) -> bool {
 /// How a version writes the records of a push, which have been tested: every leaf, and every node above them once, from below. How many
 /// nodes these are.
 pub trait Writing: Version {
-    fn write<const T: usize>(rounds: &Rounds, sizes: &Sizes, store: &mut [u64], records: &[u64]) -> u64;
+    fn write<const T: usize>(set: &Set, sizes: &Sizes, store: &mut [u64], records: &[u64]) -> u64;
 }
 
 impl Writing for Tuned {
     /// In the library's way, which takes no memory: the nodes are marked in the store, and then from below the marked ones are rewritten.
     #[inline(never)]
-    fn write<const T: usize>(rounds: &Rounds, sizes: &Sizes, store: &mut [u64], records: &[u64]) -> u64 {
+    fn write<const T: usize>(set: &Set, sizes: &Sizes, store: &mut [u64], records: &[u64]) -> u64 {
         for record in records.chunks_exact(RECORD) {
             sizes.put(store, record);
             sizes.mark_above(store, record[0] as usize);
@@ -473,13 +445,13 @@ impl Writing for Tuned {
         let (mut made, mut before, mut under) = (0, 0, sizes.arity);
         while sizes.leaves / under > many {
             for place in places(records) {
-                made += rounds.rewrite_marked::<Self, T>(sizes, store, before + place as usize / under);
+                made += set.rewrite_marked::<Self, T>(sizes, store, before + place as usize / under);
             }
             before += sizes.leaves / under;
             under *= sizes.arity;
         }
         for n in before..sizes.inner {
-            made += rounds.rewrite_marked::<Self, T>(sizes, store, n);
+            made += set.rewrite_marked::<Self, T>(sizes, store, n);
         }
         made
     }
@@ -488,7 +460,7 @@ impl Writing for Tuned {
 impl Writing for Plain {
     /// With a list of the nodes of each level, which rises.
     #[inline(never)]
-    fn write<const T: usize>(rounds: &Rounds, sizes: &Sizes, store: &mut [u64], records: &[u64]) -> u64 {
+    fn write<const T: usize>(set: &Set, sizes: &Sizes, store: &mut [u64], records: &[u64]) -> u64 {
         records.chunks_exact(RECORD).for_each(|record| sizes.put(store, record));
         let mut nodes: Vec<usize> = places(records).map(|place| place as usize).collect();
         nodes.sort();
@@ -497,7 +469,7 @@ impl Writing for Plain {
             nodes.iter_mut().for_each(|node| *node = sizes.leaves + *node / sizes.arity);
             nodes.dedup();
             for &node in &nodes {
-                rounds.rewrite::<Self, T>(sizes, store, node - sizes.leaves);
+                set.rewrite::<Self, T>(sizes, store, node - sizes.leaves);
                 made += 1;
             }
         }
@@ -508,7 +480,7 @@ impl Writing for Plain {
 /// A push that asks whether a place stands twice, or one that does not.
 #[inline(never)]
 pub fn push<V: Writing, const T: usize, const TESTED: bool>(set: &Set, store: &mut [u64], records: &[u64], made: &mut u64) -> u8 {
-    let number = validate::<V>(set);
+    let number = set.judge::<V>();
     if number != DONE {
         return number;
     }
@@ -529,6 +501,6 @@ pub fn push<V: Writing, const T: usize, const TESTED: bool>(set: &Set, store: &m
     if TESTED && repeats(records, sizes.leaves as u64) {
         return REPEATED;
     }
-    *made = V::write::<T>(&Rounds::of(set), &sizes, store, records);
+    *made = V::write::<T>(set, &sizes, store, records);
     DONE
 }
