@@ -160,9 +160,7 @@ impl Bench {
             a.times = a.times.best(b.times);
         }
         for (a, b) in self.judged.iter_mut().zip(other.judged) {
-            a.added = a.added.best(b.added);
-            lower(&mut a.sizes, b.sizes);
-            lower(&mut a.former, b.former);
+            a.times = a.times.best(b.times);
         }
         for (a, b) in self.floors.iter_mut().zip(other.floors) {
             lower(&mut a.verify, b.verify);
@@ -234,16 +232,11 @@ impl Bench {
         self.add("compress", T, l, None, case.compression(n), None);
         let (inverse, thousand) = case.inverse_permutations(few);
         self.add("inverse permutation", T, None, None, inverse, Some(INVERSE_TARGET));
-        let ((validate, added), (sizes, former)) = (case.validation(n), case.judging(n));
-        self.add("validate", T, l, None, validate, None);
-        self.add("sizes", T, l, Some(case.sizes), sizes, None);
         self.inverted.push(Inverted { t: T, times: thousand });
-        self.judged.push(Judged {
-            t: T,
-            added,
-            sizes: sizes.proved,
-            former,
-        });
+        let (validate, keeping) = case.validation(n);
+        self.add("validate", T, l, None, validate, None);
+        self.judged.push(Judged { t: T, times: keeping });
+        self.add("sizes", T, l, Some(case.sizes), case.sizing(n), None);
     }
 
     /// The trees of one shape near one size.

@@ -5,8 +5,8 @@ use crate::inverses::Inverting;
 use crate::poseidon2::{Plain, Tuned, Version, P};
 use crate::proved;
 use crate::repeats;
-use crate::sets::{self, Numbers, Set, BAD_KEPT_VALUES, DONE, SINGULAR};
-use crate::trees::{self, places, Sizes, NOT_A_WORD, RECORD, REPEATED};
+use crate::sets::{self, Numbers, Set, BAD_KEPT_VALUES, BAD_WIDTH, DONE, SINGULAR};
+use crate::trees::{self, places, Sizes, BAD_LENGTH, NOT_A_WORD, RECORD, REPEATED};
 use std::hint::black_box;
 
 /// R_F and R_P.
@@ -75,29 +75,38 @@ impl Thousand {
     }
 }
 
-/// What validation takes for the values that a set keeps, in seconds a call.
+/// What the values that a set keeps cost where it is made and where it is handed in: the best times of proved calls, and of a tuned version
+/// of what there was before, in seconds.
 #[derive(Clone, Copy)]
-pub struct Added {
+pub struct Keeping {
     pub validate: f64,
-    /// The tuned version without these values.
+    /// The tuned validation without these values.
     pub former: f64,
-    /// The proved inverse of a word.
+    /// The inverse of a word.
     pub inverse: f64,
+    /// A call that is refused for its set's width, before anything is judged of the lists, and one that is refused right after the judging.
+    pub refused: [f64; 2],
 }
 
-impl Added {
+impl Keeping {
     /// The better of each.
-    pub fn best(self, other: Added) -> Added {
-        Added {
+    pub fn best(self, other: Keeping) -> Keeping {
+        Keeping {
             validate: self.validate.min(other.validate),
             former: self.former.min(other.former),
             inverse: self.inverse.min(other.inverse),
+            refused: lower(self.refused, other.refused),
         }
     }
 
     /// How much longer validation takes than it did, in inversions.
     pub fn inversions(&self) -> f64 {
         (self.validate - self.former) / self.inverse
+    }
+
+    /// The judging of a set that is handed in, as it shows in whole calls.
+    pub fn judging(&self) -> f64 {
+        self.refused[1] - self.refused[0]
     }
 }
 
@@ -460,16 +469,25 @@ impl<const T: usize> Case<T> {
         Times::of(&best, STATE_CALLS)
     }
 
-    /// Validation, and in the same rounds the tuned version of what it was before a set kept anything, and the proved inverse of a word.
-    pub fn validation(&self, rounds: usize) -> (Times, Added) {
-        let numbers = self.set.numbers();
+    /// Validation, and in the same rounds what else shows the cost of the values that a set keeps.
+    pub fn validation(&self, rounds: usize) -> (Times, Keeping) {
+        let (numbers, no_width) = (
+            self.set.numbers(),
+            Set {
+                width: 0,
+                ..self.set.clone()
+            },
+        );
         let validated = |version: Validate| {
             let mut set = Set::NONE;
             (0..STATE_CALLS).for_each(|_| assert_eq!(version(black_box(&numbers), &mut set), DONE));
             assert!(set == self.set, "the versions keep other values");
         };
+        let refused = |set: &Set, number: u8| {
+            (0..STATE_CALLS).for_each(|_| assert_eq!(proved::unpermute(black_box(set), &mut []), number));
+        };
         let [proved, tuned, plain] = VALIDATIONS;
-        let versions: [&dyn Fn(); 5] = [
+        let versions: [&dyn Fn(); 7] = [
             &|| validated(proved),
             &|| validated(tuned),
             &|| validated(plain),
@@ -477,29 +495,26 @@ impl<const T: usize> Case<T> {
             &|| {
                 (0..STATE_CALLS).fold(self.leaves[0], |x, _| proved::inverse(black_box(x)));
             },
+            &|| refused(&no_width, BAD_WIDTH),
+            &|| refused(&self.set, BAD_LENGTH),
         ];
-        let best = race(rounds, &[], versions, |version, _, _| version());
-        let times = Times::of(&best, STATE_CALLS);
-        let added = Added {
-            validate: times.proved,
-            former: best[3] / STATE_CALLS as f64,
-            inverse: best[4] / STATE_CALLS as f64,
+        let best = race(rounds, &[], versions, |version, _, _| version()).map(|time| time / STATE_CALLS as f64);
+        let keeping = Keeping {
+            validate: best[0],
+            former: best[3],
+            inverse: best[4],
+            refused: [best[5], best[6]],
         };
-        (times, added)
+        (Times::of(&best, 1), keeping)
     }
 
-    /// The sizes of the set's tree, for which the set is judged and hardly more is done; and in the same rounds the tuned version of what
-    /// they were before a set kept anything, in seconds a call.
-    pub fn judging(&self, rounds: usize) -> (Times, f64) {
-        let numbers = self.set.numbers();
-        let former = |_: &Set, counts: &mut [u64; 3]| trees::former_sizes::<Tuned>(black_box(&numbers), counts);
-        let [proved, tuned, plain] = SIZES;
-        let versions: [&dyn Fn(&Set, &mut [u64; 3]) -> u8; 4] = [&proved, &tuned, &plain, &former];
-        let best = race(rounds, &[0; 3], versions, |version, _, buffer| {
+    /// The sizes of the set's tree, for which the set is judged and hardly more is done.
+    pub fn sizing(&self, rounds: usize) -> Times {
+        let best = race(rounds, &[0; 3], SIZES, |version, _, buffer| {
             let counts: &mut [u64; 3] = buffer.try_into().unwrap();
             (0..STATE_CALLS).for_each(|_| assert_eq!(version(black_box(&self.set), counts), DONE));
         });
-        (Times::of(&best, STATE_CALLS), best[3] / STATE_CALLS as f64)
+        Times::of(&best, STATE_CALLS)
     }
 
     /// A thousand inverse permutations, each of the state that the last one made: under one set; with a validation before each; and by the

@@ -1,5 +1,5 @@
 //! What the program prints: Markdown tables, and the machine.
-use crate::measure::{Added, Tested, Thousand, Times};
+use crate::measure::{Keeping, Tested, Thousand, Times};
 use crate::trees::Sizes;
 use std::fs::read_to_string;
 
@@ -23,10 +23,7 @@ pub struct Inverted {
 /// Validation, and the judging of a set that is handed in, beside what they were before a set kept anything.
 pub struct Judged {
     pub t: usize,
-    pub added: Added,
-    /// The sizes of a set's tree, and the tuned version of what they were.
-    pub sizes: f64,
-    pub former: f64,
+    pub times: Keeping,
 }
 
 /// A verification beside the work that it cannot do without.
@@ -87,8 +84,8 @@ pub struct Choice {
 }
 
 const FLOOR_TARGET: f64 = 1.05;
-/// The most that validation is to take longer than it did, in inversions of a word, and the most that the judging of a set over what it was is
-/// to be.
+/// The most that validation is to take longer than it did, in inversions of a word, and the most that the judging of a set over what it was
+/// is to be.
 const INVERSIONS_TARGET: f64 = 2.0;
 const JUDGING_TARGET: f64 = 1.5;
 /// The most that a push of all leaves over a build of them is to be.
@@ -195,22 +192,22 @@ pub fn print_inverted(inverted: &[Inverted]) {
 pub fn print_judged(judged: &[Judged]) {
     println!(
         "| t | validation before, tuned | validate | inverse of a word | longer by, in inversions | target \
-         | sizes before, tuned | sizes | now/before | target |"
+         | judging of a set | judging/validation before | target |"
     );
-    println!("|--:|--:|--:|--:|--:|---|--:|--:|--:|---|");
+    println!("|--:|--:|--:|--:|--:|---|--:|--:|---|");
     let mut aimed = vec![];
     for j in judged {
-        let (added, inversions, ratio) = (j.added, j.added.inversions(), j.sizes / j.former);
+        let (times, judging) = (j.times, j.times.judging());
+        let (inversions, ratio) = (times.inversions(), judging / times.former);
         aimed.extend([(inversions, INVERSIONS_TARGET), (ratio, JUDGING_TARGET)]);
         println!(
-            "| {} | {} | {} | {} | {inversions:.3} | {} | {} | {} | {ratio:.3} | {} |",
+            "| {} | {} | {} | {} | {inversions:.3} | {} | {} | {ratio:.3} | {} |",
             j.t,
-            time(added.former),
-            time(added.validate),
-            time(added.inverse),
+            time(times.former),
+            time(times.validate),
+            time(times.inverse),
             mark(inversions, Some(INVERSIONS_TARGET)),
-            time(j.former),
-            time(j.sizes),
+            time(judging),
             mark(ratio, Some(JUDGING_TARGET)),
         );
     }

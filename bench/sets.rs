@@ -29,6 +29,7 @@ pub struct Set {
 }
 
 pub const DONE: u8 = 0;
+pub const BAD_WIDTH: u8 = 1;
 pub const SINGULAR: u8 = 9;
 pub const BAD_KEPT_VALUES: u8 = 18;
 
@@ -68,7 +69,7 @@ fn bad_diagonal<V: Version>(diagonal: &[u64]) -> bool {
 #[inline(always)]
 fn refusal_of_numbers(t: u64, l: u64, height: u64, full_rounds: u64, partial_rounds: u64) -> u8 {
     if t != 4 && t != 8 && t != 12 {
-        return 1;
+        return BAD_WIDTH;
     }
     if l == 0 || t % l != 0 || t / l < 2 {
         return 2;

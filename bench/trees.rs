@@ -44,11 +44,11 @@ impl Sizes {
     }
 
     fn of(set: &Set) -> Sizes {
-        Sizes::of_numbers(set.width, set.node_size, set.height)
-    }
-
-    fn of_numbers(width: u64, node_size: u64, height: u64) -> Sizes {
-        Sizes::new((width / node_size) as usize, node_size as usize, height as usize)
+        Sizes::new(
+            (set.width / set.node_size) as usize,
+            set.node_size as usize,
+            set.height as usize,
+        )
     }
 
     pub fn leaf_words(&self) -> usize {
@@ -248,16 +248,6 @@ pub fn sizes<V: Version>(set: &Set, counts: &mut [u64; 3]) -> u8 {
     let number = set.judge::<V>();
     if number == DONE {
         *counts = Sizes::of(set).counts();
-    }
-    number
-}
-
-/// The same as it was before a set kept anything.
-#[inline(never)]
-pub fn former_sizes<V: Version>(numbers: &Numbers, counts: &mut [u64; 3]) -> u8 {
-    let number = former_validate::<V>(numbers);
-    if number == DONE {
-        *counts = Sizes::of_numbers(numbers.width, numbers.node_size, numbers.height).counts();
     }
     number
 }
