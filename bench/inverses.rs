@@ -167,7 +167,8 @@ mod tuned {
         products(x, y)
     }
 
-    /// Seventh roots, by the exponent 100100…100 0 110110…110111 in binary: 63 squarings and nine products.
+    /// Seventh roots, by the exponent that is 100 ten times, 0, 110 ten times and 111 in binary: 63 squarings and nine products. The names
+    /// tell how often 100 stands in the exponent reached.
     #[inline(always)]
     fn roots<const N: usize>(x: [u64; N]) -> [u64; N] {
         let x2 = products(x, x);
@@ -176,11 +177,11 @@ mod tuned {
         let four = raised(two, 6, two);
         let eight = raised(four, 12, four);
         let ten = raised(eight, 6, two);
-        let twenty = raised(raised(ten, 31, ten), 1, ten);
-        raised(twenty, 2, products(products(x4, x2), x))
+        let most = raised(raised(ten, 31, ten), 1, ten);
+        raised(most, 2, products(products(x4, x2), x))
     }
 
-    /// By the exponent p - 2, in binary 31 ones, a zero and 32 ones: 63 squarings and nine products.
+    /// By the exponent p - 2, in binary 31 ones, a zero and 32 ones: 63 squarings and nine products. The names tell how many ones.
     #[inline(always)]
     fn inverse(x: u64) -> u64 {
         let one = [x];
