@@ -1,15 +1,16 @@
 -- A set and a state that are not refused.
 use mathlib.Core.Path.{_≡_}
+use mathlib.Core.Logic.{_≢_}
 use mathlib.Core.Bool.{not, true, _&&_}
-use mathlib.Core.List.{List}
+use mathlib.Core.List.{List, [], _∷_}
 use Prim.Native.Nat.{ℕ, _+_, _*_, _/_, _≤_}
 use lib.Dec.{eqb}
 use lib.ListN.{length, take}
 use borrow.Author.Tests.{eqb-true, not-false}
 use Rattle.modular.specs.Arithmetic.{allWords}
 use Rattle.modular.proofs.Words.{left-true, right-true}
-use Rattle.refusals.specs.Table.{firstRefusal}
-use Rattle.refusals.proofs.Table.{Numbered}
+use Rattle.refusals.specs.Table.{refusal, notWords, firstRefusal}
+use Rattle.refusals.proofs.Table.{Numbered, first-front}
 use Rattle.poseidon2.specs.Inverse.{inverses, totalInverse}
 use Rattle.poseidon2.specs.Statements.{Width, Words, AcceptedDiagonal}
 use Rattle.parameters.specs.declared.ParameterSet.{ParameterSet}
@@ -32,6 +33,11 @@ pub record Accepted (s : ParameterSet) (xs : List ℕ) : Type 0 where
   pub total : s .«total_inverse» ≡ totalInverse (primeOf s) (take (s .width) (s .diagonal))
   pub long : length xs ≡ s .width
   pub words : allWords (primeOf s) xs ≡ true
+
+-- the set's refusals, 18 among them, come before those of the state
+pub set-first : (s : ParameterSet) (xs : List ℕ) → firstRefusal (setRefusals s) ≢ 0 → firstRefusal (stateRefusals s xs) ≡ firstRefusal (setRefusals s)
+unfolding stateRefusals
+set-first s xs o = first-front (setRefusals s) (refusal 10 (not (eqb (length xs) (s .width))) ∷ notWords (primeOf s) xs ∷ []) o
 
 pub state-numbered : (s : ParameterSet) (xs : List ℕ) → Numbered (stateRefusals s xs)
 unfolding stateRefusals

@@ -2,10 +2,10 @@ use mathlib.Core.Path.{sym, ap, _∙_}
 use mathlib.Core.Bool.{not}
 use borrow.Author.Needs.{needs}
 use borrow.Author.Tests.{eq-eqb, ne-eqb, not-true, not-false}
-use Rattle.refusals.proofs.Table.{first-front}
 use Rattle.parameters.proofs.Accepted.{set-numbered}
 use Rattle.state_entries.specs.Permutation.{stateRefusals}
 use Rattle.refusals.proofs.LengthsAndWords.{at-10, at-12, at-none}
+use Rattle.state_entries.proofs.AcceptedStates.{set-first}
 use Rattle.state_entries.proofs.states.refusal_of_state.Statement.{statement}
 use Rattle.state_entries.proofs.states.refusal_of_state.Tie as tie
 
@@ -13,10 +13,9 @@ refusal-of-requires : tie.Need-refusal-of-requires
 refusal-of-requires c κs = search needs
 
 returns : tie.Need-returns
-unfolding stateRefusals
 returns c =
     let e = c .before .refusal-of .ensures in
-    e ∙ sym (first-front _ _ (λ z. c .if1 .taken (e ∙ z)))
+    e ∙ sym (set-first _ _ (λ z. c .if1 .taken (e ∙ z)))
 
 returns-2 : tie.Need-returns-2
 unfolding stateRefusals
