@@ -237,7 +237,7 @@ mod tuned {
         let sum = residue(match zero {
             Some(z) => s[z],
             None => mul(
-                reduce_small((0..T).map(|i| mul(e[i], s[i]) as u128).sum()),
+                reduce_small((0..T).rev().map(|i| mul(e[i], s[i]) as u128).sum()),
                 kept.total_inverse,
             ),
         });

@@ -48,6 +48,13 @@ difference-unborrowed a b s l ha hb hs es =
     let m : b % p ≡ b = mod-eq-of-lt hb in
     rest-is (a + (p - b % p)) s 1 (omega arith) (omega arith)
 
+-- what a corrected difference is congruent to
+pub borrowed≈ : (a b s r : ℕ) → a < b → b < p → s < W → (s + b) % W ≡ a → r < W → (r + ε) % W ≡ s → r ≈⟨ p ⟩ a + (p - b)
+borrowed≈ a b s r l hb hs es hr er = eq≈ (omega arith)
+
+pub unborrowed≈ : (a b s : ℕ) → b ≤ a → b < p → s < W → (s + b) % W ≡ a → s ≈⟨ p ⟩ a + (p - b)
+unborrowed≈ a b s l hb hs es = less≈ (a + (p - b)) s 1 (omega arith)
+
 -- The low word less the top half: as it is, or with p more.
 abbrev pub Rest : (high low rest : ℕ) → Type 0
 Rest high low rest = (rest + high / H ≡ low) ⊎ ((0 < high / H) × (rest + high / H ≡ low + p))
@@ -61,6 +68,19 @@ reduced high low rest (inl e) = less≈ (high * W + low) (rest + high % H * ε) 
 reduced high low rest (inr e) =
     less≈ (high * W + low) (rest + high % H * ε) (high / H * 4294967297 + high % H - 1)
     (one-less (high * W + low) (rest + high % H * ε) (high / H * 4294967297 + high % H) (omega arith) (omega arith))
+
+-- and so by a difference modulo p
+pub taken-off : (high low : ℕ) → high / H < p → low + (p - high / H) + high % H * ε ≈⟨ p ⟩ high * W + low
+taken-off high low h =
+    trans≈ (reduced high (low + p) (low + (p - high / H)) (inl (omega arith)))
+    (sym≈ (less≈ (high * W + (low + p)) (high * W + low) 1 (omega arith)))
+
+-- the top half of a number of 64 bits is a word, and so is the other times ε
+pub top-word : (high : ℕ) → high < W → high / H < p
+top-word high h = omega arith
+
+pub middle-word : (high : ℕ) → high % H * ε < p
+middle-word high = omega arith
 
 -- high * 2 ^ 32 by the high's own halves
 pub half-fits : (high : ℕ) → high % H * H < W

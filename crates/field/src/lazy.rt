@@ -1,6 +1,6 @@
 // Lazy numbers: any number of 64 bits stands for its residue modulo p. Contracts say what a result is congruent to.
 ghost use mathlib.Core.Path.{_≡_};
-ghost use Prim.Native.Nat.{_+_, _*_, _/_, _%_, _^_, _<_, _≤_};
+ghost use Prim.Native.Nat.{_+_, _*_, _-_, _/_, _%_, _^_, _<_, _≤_};
 ghost use Rattle.modular.specs.Congruence.{_≈⟨_⟩_};
 ghost use Rattle.modular.specs.Goldilocks.{p};
 use crate::EPSILON;
@@ -79,6 +79,15 @@ pub fn product(a: u64, b: u64) -> u64
     reduce(product_high(a, b), product_low(a, b))
 }
 
+// A square, reduced as a product is but in another order, the product by EPSILON last: where squares wait for squares it takes less time.
+pub fn square(x: u64) -> u64
+    ensures { λ r. ⌜ r ≈⟨ p ⟩ x * x ⌝ }
+{
+    let high = product_high(x, x);
+    let rest = difference(product_low(x, x), high / HALF);
+    sum(rest, high % HALF * EPSILON)
+}
+
 // A product and a number more, with one reduction.
 pub fn product_sum(a: u64, b: u64, c: u64) -> u64
     ensures { λ r. ⌜ r ≈⟨ p ⟩ c + a * b ⌝ }
@@ -94,7 +103,7 @@ pub fn product_sum(a: u64, b: u64, c: u64) -> u64
     reduce(top, total)
 }
 
-// The sum of a number and a word.
+// The sum of a number and a word. Where it wraps it lacks 2^64.
 pub fn sum(a: u64, b: u64) -> u64
     requires { ⌜ b < p ⌝ }
     ensures { λ r. ⌜ r ≈⟨ p ⟩ a + b ⌝ }
@@ -104,6 +113,19 @@ pub fn sum(a: u64, b: u64) -> u64
         wrapping_add_u64(total, EPSILON)
     } else {
         total
+    }
+}
+
+// A number less a word. Where it wraps it has 2^64 too much, which is EPSILON modulo p.
+pub fn difference(a: u64, b: u64) -> u64
+    requires { ⌜ b < p ⌝ }
+    ensures { λ r. ⌜ r ≈⟨ p ⟩ a + (p - b) ⌝ }
+{
+    let wrapped = wrapping_sub_u64(a, b);
+    if a < b {
+        wrapping_sub_u64(wrapped, EPSILON)
+    } else {
+        wrapped
     }
 }
 

@@ -109,6 +109,21 @@ pub fn lazy_product_sum(a: u64, b: u64, c: u64) -> u64
     field::lazy::product_sum(a, b, c)
 }
 
+// A number less a word.
+pub fn lazy_difference(a: u64, b: u64) -> u64
+    requires { ⌜ b < prime ⌝ }
+    ensures { λ r. ⌜ r ≈⟨ prime ⟩ a + (prime - b) ⌝ }
+{
+    field::lazy::difference(a, b)
+}
+
+// A seventh root of what a number stands for.
+pub fn lazy_seventh_root(y: u64) -> u64
+    ensures { λ r. ⌜ r ≈⟨ prime ⟩ seventhRoot prime (y % prime) ⌝ }
+{
+    roots::lazy_seventh_root(y)
+}
+
 // The word that a lazy number stands for.
 pub fn residue(x: u64) -> u64
     ensures { λ r. ⌜ r ≡ x % prime ⌝ }

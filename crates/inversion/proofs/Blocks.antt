@@ -134,7 +134,7 @@ several-width {t} (inl e) h = absurd (h e)
 several-width {t} (inr (inl e)) h = (omega arith, omega arith)
 several-width {t} (inr (inr e)) h = (omega arith, omega arith)
 
-add-zeros : {p : ℕ} (x : ℕ) → x < p → add p x 0 ≡ x
+pub add-zeros : {p : ℕ} (x : ℕ) → x < p → add p x 0 ≡ x
 unfolding add
 add-zeros {p} x h = ap (λ (n : ℕ). n % p) (add-zero x) ∙ mod-eq-of-lt h
 

@@ -4,14 +4,14 @@ use mathlib.Core.Logic.{_≢_}
 use mathlib.Core.Bool.{Bool, true, false, cond}
 use mathlib.Core.List.{List, [], _∷_}
 use Prim.Native.Nat.{ℕ, zero, suc, _+_, _*_, _-_, _%_, _<_, _≤_}
-use native.Mathlib.Nat.{zero-add, mod-mod, mod-lt}
+use native.Mathlib.Nat.{mod-mod, mod-lt}
 use native.Mathlib.Decide.{ℕ-discrete}
 use native.Mathlib.Omega.{arith}
 use lib.Dec.{ltb}
 use lib.ListN.{length, getD, take, drop, set}
 use lib.Seq.{set-out}
 use borrow.Author.Tests.{eq-eqb, ne-eqb, lt-ltb, le-ltb}
-use Rattle.modular.specs.Arithmetic.{sub, mul, inverse}
+use Rattle.modular.specs.Arithmetic.{sub, mul}
 use Rattle.fields.specs.Prime.{prime}
 use Rattle.modular.specs.Congruence.{_≈⟨_⟩_}
 use Rattle.modular.proofs.Congruence.{eq≈, trans≈, mod≈}
@@ -46,11 +46,9 @@ multiplesLess-same p h es (y ∷ ys) =
     cons-eq (ap (λ (n : ℕ). mul p (getD es 0 0) ((y + (p - n)) % p)) (h .same)) (multiplesLess-same p h (drop 1 es) ys)
 
 -- what the code puts in the zero's place: a difference by a sum modulo p
-pub sub-sum : (s total : ℕ) (st : List ℕ) → total ≡ (0 + sum st) % prime → sub prime s total ≡ sub prime s (sum st)
+pub sub-sum : (s total : ℕ) (st : List ℕ) → total ≡ sum st % prime → sub prime s total ≡ sub prime s (sum st)
 unfolding sub
-sub-sum s total st e =
-    ap (λ (m : ℕ). (s + (prime - m % prime)) % prime) e
-    ∙ ap (λ (m : ℕ). (s + (prime - m)) % prime) (mod-mod (0 + sum st) prime ∙ ap (λ (m : ℕ). m % prime) (zero-add (sum st)))
+sub-sum s total st e = ap (λ (m : ℕ). (s + (prime - m)) % prime) (ap (λ (m : ℕ). m % prime) e ∙ mod-mod (sum st) prime)
 
 module _ (z : ℕ) (es : List ℕ) (k : ℕ) (ys : List ℕ) where
   pub sum-there : z < length ys → oldSum prime z es k ys ≡ getD ys z 0

@@ -13,7 +13,7 @@ use Rattle.poseidon2.specs.Statements.{Width, State}
 use Rattle.poseidon2.proofs.External.{by-width}
 use Rattle.poseidon2.proofs.Places.{first-at, rest-at}
 use Rattle.inversion.specs.Kept.{WordsBelow, uninternalBy, unpartialRoundBy, unpartialRoundsBy}
-use Rattle.inversion.proofs.Words.{unexternal-state, uninternalBy-state, unfullRounds-state, unpartialRoundsBy-state}
+use Rattle.inversion.proofs.Words.{unexternal-state, unfullRounds-state, unpartialRoundsBy-state}
 use Rattle.inversion.proofs.Kept.{subLists-take}
 
 -- the place of a round's first constant, from that of the next round
@@ -51,7 +51,7 @@ module _ (t : ℕ) (C : List ℕ) (at rounds : ℕ) (xs : List ℕ) where
   full-all = ap₂ (λ (m n : ℕ). unfullRounds prime t m (drop n C) xs) (sub-zero rounds) (ap (λ (n : ℕ). at + n) (mul-zero t) ∙ add-zero at)
 
   pub full-more : (i : ℕ) (st : List ℕ) → Width t → 0 < i → i ≤ rounds → State prime t st → st ≡ fullFrom t C at rounds xs i
-      → subLists prime (seventhRoots prime (unexternal prime st)) (drop (at + t * (i - 1)) C) ≡ fullFrom t C at rounds xs (i - 1)
+      → unfullRound prime (drop (at + t * (i - 1)) C) st ≡ fullFrom t C at rounds xs (i - 1)
   unfolding unfullRounds unfullRound seventhRoots
   full-more i st w h l s e =
       let cs : List ℕ = drop (at + t * (i - 1)) C in
@@ -106,12 +106,6 @@ pub full-step : {t : ℕ} {x : List ℕ} (n : ℕ) (cs y : List ℕ) → Width t
 full-step {t} {x} n cs y w s e =
     let q : y ≡ unfullRounds prime t n cs x = e ∙ ap (λ (m : ℕ). unfullRounds prime m n cs x) (s .width) in
     (q, subst (State prime t) (sym q) (unfullRounds-state n cs x w s))
-
-pub internal-step : {t : ℕ} {x : List ℕ} (es : List ℕ) (k : ℕ) (y : List ℕ) → State prime t x → y ≡ uninternalBy prime (take (length x) es) k x
-    → (y ≡ uninternalBy prime (take t es) k x) × State prime t y
-internal-step {t} {x} es k y s e =
-    let q : y ≡ uninternalBy prime (take t es) k x = e ∙ ap (λ (m : ℕ). uninternalBy prime (take m es) k x) (s .width) in
-    (q, subst (State prime t) (sym q) (uninternalBy-state (take t es) k s))
 
 pub partial-step : {t : ℕ} {x : List ℕ} (es : List ℕ) (k n : ℕ) (cs y : List ℕ) → State prime t x → y ≡ unpartialRoundsBy prime (take (length x) es) k n cs x
     → (y ≡ unpartialRoundsBy prime (take t es) k n cs x) × State prime t y

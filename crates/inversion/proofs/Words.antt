@@ -1,5 +1,5 @@
 -- Sums, differences and products modulo prime, and lists of them, are words.
-use mathlib.Core.Path.{_≡_, sym, subst, _∙_}
+use mathlib.Core.Path.{_∙_}
 use mathlib.Core.Bool.{Bool, true, false, cond}
 use mathlib.Core.List.{List, [], _∷_}
 use Prim.Native.Nat.{ℕ, zero, suc, _+_, _*_, _-_, _%_, _<_}
@@ -37,9 +37,6 @@ roots-words ys = words-map positive (seventhRoot prime) root-word ys
 
 pub unexternal-state : {t : ℕ} {ys : List ℕ} → Width t → State prime t ys → State prime t (unexternal prime ys)
 unexternal-state {t} {ys} w s = invertible prime-field .externalLayer t w .from ys s
-
-pub unexternal-step : {t : ℕ} {x y : List ℕ} → Width t → State prime t x → y ≡ unexternal prime x → State prime t y
-unexternal-step {t} w s e = subst (State prime t) (sym e) (unexternal-state w s)
 
 pub unfullRound-state : {t : ℕ} {ys : List ℕ} (cs : List ℕ) → Width t → State prime t ys → State prime t (unfullRound prime cs ys)
 unfolding unfullRound seventhRoots

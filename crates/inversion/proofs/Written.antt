@@ -1,12 +1,11 @@
 -- A state read and written by its blocks of four.
-use mathlib.Core.Path.{_≡_, refl, sym, ap, ap₂, _∙_}
-use mathlib.Core.List.{List, [], _∷_, _++_}
+use mathlib.Core.Path.{_≡_, refl, sym, ap, ap₂, subst, _∙_}
+use mathlib.Core.List.{List, [], _∷_, _++_, append-assoc}
 use Prim.Native.Nat.{ℕ, suc, _+_, _<_, _≤_}
 use native.Mathlib.Omega.{arith}
-use lib.ListN.{length, getD, take, drop, length-append, length-drop, drop-of-length-le}
+use lib.ListN.{length, getD, take, drop, length-append, length-drop, take-append-drop}
 use lib.Seq.{take-at, take-all, length-take-le, drop-drop}
 use Rattle.modular.specs.Arithmetic.{sub}
-use Rattle.modular.proofs.Fours.{from-four, four-at}
 use Rattle.poseidon2.specs.Inverse.{subLists}
 use Rattle.poseidon2.specs.Statements.{Words}
 use Rattle.poseidon2.proofs.Words.{cons-eq, words-none, words-more}
@@ -14,13 +13,6 @@ use Rattle.poseidon2.proofs.Places.{first-at, rest-at}
 use Rattle.blocks.specs.Blocks.{four}
 use Rattle.blocks.proofs.Lists.{four-eq, append-eq}
 use Rattle.inversion.proofs.Blocks as blocks
-
--- the block at a place, and what follows it
-pub read-more : (xs b : List ℕ) (i : ℕ) → i + 4 ≤ length xs → b ≡ take 4 (drop i xs) → four b ++ drop (i + 4) xs ≡ drop i xs
-read-more xs b i h e = ap (λ (l : List ℕ). four l ++ drop (i + 4) xs) (e ∙ four-at xs i h) ∙ sym (from-four xs i h)
-
-pub read-none : (xs : List ℕ) (i : ℕ) → length xs ≤ i → [] ≡ drop i xs
-read-none xs i h = sym (drop-of-length-le xs h)
 
 -- the first i numbers of a state of t are xs
 pub record Written (t i : ℕ) (xs st : List ℕ) : Type 0 where
@@ -87,22 +79,22 @@ less-four p b C k e f g h =
     at : (n i j : ℕ) → i ≡ j → sub p (getD b n 0) (getD C i 0) ≡ sub p (getD b n 0) (getD C j 0)
     at n i j d = ap (λ (m : ℕ). sub p (getD b n 0) (getD C m 0)) d
 
--- ---- a state of one, two and three blocks
+-- ---- a state of two and three blocks
 
-pub whole-one : (xs a : List ℕ) → length xs ≡ 4 → a ≡ take 4 (drop 0 xs) → four a ≡ xs
-whole-one xs a l e = ap (λ (ys : List ℕ). four a ++ ys) (read-none xs 4 (omega arith)) ∙ read-more xs a 0 (omega arith) e
-
-pub whole-two : (xs a b : List ℕ) → length xs ≡ 8 → a ≡ take 4 (drop 0 xs) → b ≡ take 4 (drop 4 xs) → four a ++ four b ≡ xs
+pub whole-two : (xs a b : List ℕ) → length xs ≡ 8 → a ≡ take 4 (drop 0 xs) → b ≡ take 4 (drop 4 xs) → a ++ b ≡ xs
 whole-two xs a b l e f =
-    ap (λ (ys : List ℕ). four a ++ (four b ++ ys)) (read-none xs 8 (omega arith)) ∙ ap (λ (ys : List ℕ). four a ++ ys) (read-more xs b 4 (omega arith) f)
-    ∙ read-more xs a 0 (omega arith) e
+    let long : length (drop 4 xs) ≡ 4 = length-drop 4 xs ∙ omega (arith, l) in
+    ap₂ (λ (x y : List ℕ). x ++ y) e (f ∙ take-all 4 (drop 4 xs) (omega (arith, long))) ∙ take-append-drop 4 xs
 
-pub whole-three : (xs a b c : List ℕ) → length xs ≡ 12 → a ≡ take 4 (drop 0 xs) → b ≡ take 4 (drop 4 xs) → c ≡ take 4 (drop 8 xs)
-    → four a ++ (four b ++ four c) ≡ xs
+pub whole-three : (xs a b c : List ℕ) → length xs ≡ 12 → a ≡ take 4 (drop 0 xs) → b ≡ take 4 (drop 4 xs) → c ≡ take 4 (drop 8 xs) → a ++ b ++ c ≡ xs
 whole-three xs a b c l e f g =
-    ap (λ (ys : List ℕ). four a ++ (four b ++ (four c ++ ys))) (read-none xs 12 (omega arith))
-    ∙ ap (λ (ys : List ℕ). four a ++ (four b ++ ys)) (read-more xs c 8 (omega arith) g)
-    ∙ ap (λ (ys : List ℕ). four a ++ ys) (read-more xs b 4 (omega arith) f) ∙ read-more xs a 0 (omega arith) e
+    let long : length (drop 4 xs) ≡ 8 = length-drop 4 xs ∙ omega (arith, l) in
+    let last : c ≡ take 4 (drop 4 (drop 4 xs)) = g ∙ ap (take 4) (sym (drop-drop 4 4 xs)) in
+    append-assoc a b c ∙ ap₂ (λ (x y : List ℕ). x ++ y) e (whole-two (drop 4 xs) b c long f last) ∙ take-append-drop 4 xs
+
+-- a block that is read is of words where the state is
+pub read-words : {p : ℕ} {xs b : List ℕ} → 0 < p → (i : ℕ) → Words p xs → b ≡ take 4 (drop i xs) → Words p b
+read-words {p} {xs} pos i w e = subst (Words p) (sym e) (blocks.block-words pos i xs w)
 
 -- a block of words
 pub block-words : {p : ℕ} → 0 < p → (b : List ℕ) → getD b 0 0 < p → getD b 1 0 < p → getD b 2 0 < p → getD b 3 0 < p → Words p (four b)

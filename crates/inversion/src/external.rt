@@ -1,4 +1,5 @@
-// M_E undone on words: what it added to each block is taken off, and M4 is undone in each.
+// M_E undone on words: what it added to each block is taken off, and M4 is undone in each. In a round that is done on blocks by value, which
+// the compiler keeps in registers; after the last round, in the state.
 ghost use mathlib.Core.Path.{_≡_};
 ghost use mathlib.Core.Logic.{_⊎_};
 ghost use mathlib.Core.List.{_++_, map};
@@ -7,8 +8,9 @@ ghost use lib.ListN.{length, take, drop};
 ghost use Rattle.modular.specs.Arithmetic.{inverse};
 ghost use Rattle.fields.specs.Prime.{prime};
 ghost use Rattle.poseidon2.specs.Layers.{addLists, blocks, joinBlocks, sumBlocks, addToEach};
-ghost use Rattle.poseidon2.specs.Inverse.{negative, scaled, unm4, unexternal};
+ghost use Rattle.poseidon2.specs.Inverse.{negative, scaled, unm4, subLists, unexternal};
 ghost use Rattle.poseidon2.specs.Statements.{Width, Words};
+ghost use Rattle.blocks.specs.Blocks.{flat};
 use fields::difference;
 use fields::half;
 use fields::product;
@@ -16,7 +18,7 @@ use fields::quarter;
 use fields::sum;
 
 // M4 undone, its sums from the last to the first.
-fn unm4(x: [u64; 4]) -> [u64; 4]
+pub fn unm4(x: [u64; 4]) -> [u64; 4]
     requires { ⌜ Words prime x ⌝ }
     ensures { λ r. ⌜ r ≡ unm4 prime x ⌝ }
 {
@@ -119,4 +121,60 @@ pub fn unexternal(state: &mut [u64])
     }
     let block = share(state);
     unm4_each(block, state);
+}
+
+// Minus a third of each word.
+fn minus_thirds(s: [u64; 4]) -> [u64; 4]
+    ensures { λ r. ⌜ r ≡ scaled prime (negative prime (inverse prime (3 % prime))) s ⌝ }
+{
+    let part = fields::minus_third();
+    [
+        product(part, s[0]),
+        product(part, s[1]),
+        product(part, s[2]),
+        product(part, s[3]),
+    ]
+}
+
+// A quarter of each word.
+fn quarters(s: [u64; 4]) -> [u64; 4]
+    requires { ⌜ Words prime s ⌝ }
+    ensures { λ r. ⌜ r ≡ scaled prime (inverse prime (4 % prime)) s ⌝ }
+{
+    [quarter(s[0]), quarter(s[1]), quarter(s[2]), quarter(s[3])]
+}
+
+// A block less another, word by word.
+fn less_block(a: [u64; 4], b: [u64; 4]) -> [u64; 4]
+    requires { ⌜ Words prime a × Words prime b ⌝ }
+    ensures { λ r. ⌜ r ≡ subLists prime a b ⌝ }
+{
+    [
+        difference(a[0], b[0]),
+        difference(a[1], b[1]),
+        difference(a[2], b[2]),
+        difference(a[3], b[3]),
+    ]
+}
+
+// M_E undone on two blocks by value.
+pub fn unexternal8(a: [u64; 4], b: [u64; 4]) -> [[u64; 4]; 2]
+    requires { ⌜ Words prime a × Words prime b ⌝ }
+    ensures { λ r. ⌜ flat 2 r ≡ unexternal prime (a ++ b) ⌝ }
+{
+    let share = minus_thirds(add_blocks(a, b));
+    [unm4(add_blocks(a, share)), unm4(add_blocks(b, share))]
+}
+
+// And on three.
+pub fn unexternal12(a: [u64; 4], b: [u64; 4], c: [u64; 4]) -> [[u64; 4]; 3]
+    requires { ⌜ Words prime a × Words prime b × Words prime c ⌝ }
+    ensures { λ r. ⌜ flat 3 r ≡ unexternal prime (a ++ b ++ c) ⌝ }
+{
+    let share = quarters(add_blocks(a, add_blocks(b, c)));
+    [
+        unm4(less_block(a, share)),
+        unm4(less_block(b, share)),
+        unm4(less_block(c, share)),
+    ]
 }

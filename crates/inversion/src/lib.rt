@@ -11,9 +11,10 @@ ghost use Rattle.poseidon2.specs.Inverse.{zeroPlace, unfullRounds};
 ghost use Rattle.poseidon2.specs.Statements.{Width, Words};
 ghost use Rattle.inversion.specs.Kept.{WordsBelow, UnpermuteInput, unpartialRoundsBy, unpermuteBy};
 use external::unexternal;
-use fields::difference;
-use fields::seventh_root;
-use full::unraise;
+use fields::lazy_difference;
+use fields::lazy_seventh_root;
+use full::unround;
+use internal::settle;
 use internal::uninternal;
 use internal::zero_place;
 
@@ -25,8 +26,7 @@ fn unfull_rounds(rounds: usize, constants: &[u64; 208], at: usize, state: &mut [
     let mut i = rounds;
     while i > 0 {
         i -= 1;
-        unexternal(state);
-        unraise(constants, at + state.len() * i, state);
+        unround(constants, at + state.len() * i, state);
     }
 }
 
@@ -48,9 +48,10 @@ fn unpartial_rounds(
     while i > 0 {
         i -= 1;
         uninternal(zero, inverses, total_inverse, state);
-        let root = seventh_root(state[0]);
-        state[0] = difference(root, constants[at + i]);
+        let root = lazy_seventh_root(state[0]);
+        state[0] = lazy_difference(root, constants[at + i]);
     }
+    settle(state);
 }
 
 // The inverse permutation, handed the inverses of D, 0 for a 0, and the inverse of 1 plus their sum.

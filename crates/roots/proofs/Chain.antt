@@ -3,9 +3,10 @@
 use mathlib.Core.Path.{_≡_, refl, sym, ap, ap₂, subst, _∙_}
 use mathlib.Core.List.{List, [], _∷_, _++_}
 use Prim.Native.Nat.{ℕ, _+_, _*_, _%_, _^_, _<_}
-use native.Mathlib.Nat.{pow-suc}
+use native.Mathlib.Nat.{pow-suc, mod-lt, mod-mod, mod-eq-of-lt}
 use native.Mathlib.Numerals.{add-one}
 use native.Mathlib.Omega.{arith}
+use lib.Dec.{lit<}
 use lib.ListN.{getD, drop}
 use Rattle.modular.specs.Arithmetic.{mul, pow, seventhRoot}
 use Rattle.modular.specs.Congruence.{_≈⟨_⟩_}
@@ -71,7 +72,7 @@ stand-times {a} {b} {ws} {xs} {ys} rs h k e = record {
 }
 
 -- x squared n times, times y
-stand-raised : {a b : ℕ} {ws xs ys : List ℕ} (n : ℕ) (rs : List ℕ) → Stand a ws xs → Stand b ws ys
+pub stand-raised : {a b : ℕ} {ws xs ys : List ℕ} (n : ℕ) (rs : List ℕ) → Stand a ws xs → Stand b ws ys
     → residues p rs ≡ products p (powers p (2 ^ n) xs) ys → Stand (a * 2 ^ n + b) ws rs
 stand-raised {a} {b} {ws} {xs} {ys} n rs h k e = record {
   same =
@@ -97,37 +98,28 @@ pub squared-times : (i n : ℕ) {xs rs : List ℕ} (ys ss : List ℕ) → i ≡ 
 squared-times i n {xs} {rs} ys ss d h e =
     e ∙ sym (products-left rs ys) ∙ ap (λ (zs : List ℕ). products p zs ys) (h .same ∙ ap (λ (k : ℕ). powers p (2 ^ k) xs) d)
 
--- ---- the chain
+-- ---- the chain of a root alone
 
-module _ (ws two four five ten both most : List ℕ)
-    (e2 : residues p two ≡ products p (powers p (2 ^ 3) ws) ws)
-    (e4 : residues p four ≡ products p (powers p (2 ^ 6) two) two)
-    (e5 : residues p five ≡ products p (powers p (2 ^ 3) four) ws)
-    (e10 : residues p ten ≡ products p (powers p (2 ^ 15) five) five)
-    (eb : residues p both ≡ products p (powers p (2 ^ 31) ten) ten)
-    (em : residues p most ≡ products p (powers p (2 ^ 1) both) ten) where
-  most-stand : Stand 658812288193378011 ws most
-  most-stand =
-      let one : Stand 1 ws ws = stand-one ws in
-      let h2 : Stand 9 ws two = stand-raised 3 two one one e2 in
-      let h4 : Stand 585 ws four = stand-raised 6 four h2 h2 e4 in
-      let h5 : Stand 4681 ws five = stand-raised 3 five h4 one e5 in
-      let h10 : Stand 153391689 ws ten = stand-raised 15 ten h5 h5 e10 in
-      let hb : Stand 329406144019993161 ws both = stand-raised 31 both h10 h10 eb in
-      stand-raised 1 most hb h10 em
+-- the three ones at the end at once
+pub root-at-once : (ws two four five ten both most : List ℕ)
+    → residues p two ≡ products p (powers p (2 ^ 3) ws) ws
+    → residues p four ≡ products p (powers p (2 ^ 6) two) two
+    → residues p five ≡ products p (powers p (2 ^ 3) four) ws
+    → residues p ten ≡ products p (powers p (2 ^ 15) five) five
+    → residues p both ≡ products p (powers p (2 ^ 31) ten) ten
+    → residues p most ≡ products p (powers p (2 ^ 1) both) ten
+    → (sevenths r : List ℕ) → Stand 7 ws sevenths → residues p r ≡ products p (powers p (2 ^ 4) most) sevenths → Stand rootExponent ws r
+root-at-once ws two four five ten both most e2 e4 e5 e10 eb em sevenths r h e =
+    let one : Stand 1 ws ws = stand-one ws in
+    let h2 : Stand 9 ws two = stand-raised 3 two one one e2 in
+    let h4 : Stand 585 ws four = stand-raised 6 four h2 h2 e4 in
+    let h5 : Stand 4681 ws five = stand-raised 3 five h4 one e5 in
+    let h10 : Stand 153391689 ws ten = stand-raised 15 ten h5 h5 e10 in
+    let hb : Stand 329406144019993161 ws both = stand-raised 31 both h10 h10 eb in
+    let hm : Stand 658812288193378011 ws most = stand-raised 1 most hb h10 em in
+    stand-raised 4 r hm h e
 
-  -- the three ones at the end at once
-  pub root-at-once : (sevenths r : List ℕ) → Stand 7 ws sevenths → residues p r ≡ products p (powers p (2 ^ 4) most) sevenths → Stand rootExponent ws r
-  root-at-once sevenths r h e = stand-raised 4 r most-stand h e
-
-  -- and one at a time
-  pub root-by-ones : (last next r : List ℕ) → residues p last ≡ products p (powers p (2 ^ 2) most) ws
-      → residues p next ≡ products p (powers p (2 ^ 1) last) ws → residues p r ≡ products p (powers p (2 ^ 1) next) ws → Stand rootExponent ws r
-  root-by-ones last next r el en er =
-      let one : Stand 1 ws ws = stand-one ws in
-      let hl : Stand 2635249152773512045 ws last = stand-raised 2 last most-stand one el in
-      let hn : Stand 5270498305547024091 ws next = stand-raised 1 next hl one en in
-      stand-raised 1 r hn one er
+-- ---- roots
 
 -- that power of words is the seventh root
 roots-are : (ws : List ℕ) → Words p ws → powers p rootExponent ws ≡ seventhRoots p ws
@@ -200,6 +192,19 @@ pub one-stands : (w e r : ℕ) → r ≈⟨ p ⟩ w ^ e → Stand e (w ∷ []) (
 unfolding powers residues pow
 one-stands w e r h = record { same = cons-eq (h .same) refl }
 
-pub one-root : (y r : ℕ) → y < p → Stand rootExponent (y ∷ []) (r ∷ []) → r % p ≡ seventhRoot p y
-unfolding powers residues
-one-root y r w h = ap (λ (xs : List ℕ). getD xs 0 0) (h .same) ∙ sym (seventh-root-power y w)
+-- the root of what a number stands for
+pub one-root : (y r : ℕ) → Stand rootExponent (y ∷ []) (r ∷ []) → r ≈⟨ p ⟩ seventhRoot p (y % p)
+unfolding powers residues pow
+one-root y r h =
+    let made : r ≈⟨ p ⟩ y ^ rootExponent = record { same = ap (λ (xs : List ℕ). getD xs 0 0) (h .same) } in
+    trans≈ made
+    (trans≈ (pow≈ (sym≈ (mod≈ y)) rootExponent)
+    (trans≈ (sym≈ (mod≈ ((y % p) ^ rootExponent))) (eq≈ (sym (seventh-root-power (y % p) (mod-lt y (lit< tt)))))))
+
+-- and of a word, as a word
+pub word-root : (y r : ℕ) → y < p → r ≈⟨ p ⟩ seventhRoot p (y % p) → r % p ≡ seventhRoot p y
+unfolding pow
+word-root y r w h =
+    let same : seventhRoot p (y % p) ≡ seventhRoot p y = ap (seventhRoot p) (mod-eq-of-lt w) in
+    let power : seventhRoot p y ≡ pow p y rootExponent = seventh-root-power y w in
+    h .same ∙ ap (λ (n : ℕ). n % p) (same ∙ power) ∙ mod-mod (y ^ rootExponent) p ∙ sym power

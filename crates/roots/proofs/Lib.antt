@@ -1,2 +1,3 @@
 -- The laws that the proofs of the roots cite.
 mod Chain
+mod Steps

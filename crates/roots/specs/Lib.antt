@@ -1,2 +1,3 @@
--- Products and powers of lists of numbers.
+-- Products and powers of lists of numbers, and the steps of the chain.
 pub mod Powers
+pub mod Chain

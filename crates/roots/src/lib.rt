@@ -3,7 +3,7 @@
 mod step;
 
 ghost use mathlib.Core.Path.{_≡_};
-ghost use Prim.Native.Nat.{_*_, _^_, _<_};
+ghost use Prim.Native.Nat.{_*_, _%_, _^_, _<_};
 ghost use Rattle.modular.specs.Arithmetic.{seventhRoot};
 ghost use Rattle.modular.specs.Congruence.{_≈⟨_⟩_};
 ghost use Rattle.modular.specs.Goldilocks.{p};
@@ -27,11 +27,10 @@ fn raised(x: u64, n: usize, y: u64) -> u64
     product(r, y)
 }
 
-// The word whose seventh power is y. The first names tell how often 001 stands in the exponent reached. The last factor, 111, does not
-// wait for them.
-pub fn seventh_root(y: u64) -> u64
-    requires { ⌜ y < p ⌝ }
-    ensures { λ r. ⌜ r ≡ seventhRoot p y ⌝ }
+// A number whose seventh power stands for y's word. The first names tell how often 001 stands in the exponent reached. The last factor, 111,
+// does not wait for them.
+pub fn lazy_seventh_root(y: u64) -> u64
+    ensures { λ r. ⌜ r ≈⟨ p ⟩ seventhRoot p (y % p) ⌝ }
 {
     let two = raised(y, 3, y);
     let four = raised(two, 6, two);
@@ -39,5 +38,13 @@ pub fn seventh_root(y: u64) -> u64
     let ten = raised(five, 15, five);
     let both = raised(ten, 31, ten);
     let most = raised(both, 1, ten);
-    residue(raised(most, 4, seventh_power(y)))
+    raised(most, 4, seventh_power(y))
+}
+
+// The word whose seventh power is y.
+pub fn seventh_root(y: u64) -> u64
+    requires { ⌜ y < p ⌝ }
+    ensures { λ r. ⌜ r ≡ seventhRoot p y ⌝ }
+{
+    residue(lazy_seventh_root(y))
 }

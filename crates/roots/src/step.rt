@@ -1,4 +1,5 @@
-// Words in step, by blocks of four. The chain ends with three ones, one at a time: a factor kept for them would be a product more.
+// Words in step, by blocks of four. The chain is a loop over its nine steps, so that the loop of squarings stands in one place, where the
+// compiler keeps the words in registers.
 ghost use mathlib.Core.Path.{_≡_};
 ghost use Prim.Native.Nat.{_^_};
 ghost use Rattle.modular.specs.Goldilocks.{p};
@@ -6,9 +7,11 @@ ghost use Rattle.poseidon2.specs.Inverse.{seventhRoots};
 ghost use Rattle.poseidon2.specs.Residues.{residues};
 ghost use Rattle.poseidon2.specs.Statements.{Words};
 ghost use Rattle.blocks.specs.Blocks.{four, flat};
+ghost use Rattle.roots.specs.Chain.{factor};
 ghost use Rattle.roots.specs.Powers.{products, powers};
 use field::lazy::product;
 use field::lazy::residue;
+use field::lazy::square;
 
 // The products of two blocks, word by word.
 fn times4(a: [u64; 4], b: [u64; 4]) -> [u64; 4]
@@ -20,6 +23,13 @@ fn times4(a: [u64; 4], b: [u64; 4]) -> [u64; 4]
         product(a[2], b[2]),
         product(a[3], b[3]),
     ]
+}
+
+// The squares of a block.
+fn squares4(x: [u64; 4]) -> [u64; 4]
+    ensures { λ r. ⌜ residues p (four r) ≡ products p (four x) (four x) ⌝ }
+{
+    [square(x[0]), square(x[1]), square(x[2]), square(x[3])]
 }
 
 // The words that a block stands for.
@@ -36,11 +46,30 @@ fn raised4(x: [u64; 4], n: usize, y: [u64; 4]) -> [u64; 4]
     let mut r = x;
     let mut i = 0;
     while i < n {
-        let next = times4(r, r);
+        let next = squares4(r);
         r = next;
         i += 1;
     }
     times4(r, y)
+}
+
+// What a step multiplies by: the words themselves, the numbers reached so far, or those with 001 ten times in their exponent.
+fn factor4(k: usize, y: [u64; 4], r: [u64; 4], ten: [u64; 4]) -> [u64; 4]
+    ensures { λ f. ⌜ f ≡ factor k y r ten ⌝ }
+{
+    if k == 5 {
+        return ten;
+    }
+    if k == 1 {
+        return r;
+    }
+    if k == 3 {
+        return r;
+    }
+    if k == 4 {
+        return r;
+    }
+    y
 }
 
 // The seventh roots of words.
@@ -48,15 +77,20 @@ pub fn seventh_roots4(y: [u64; 4]) -> [u64; 4]
     requires { ⌜ Words p (four y) ⌝ }
     ensures { λ r. ⌜ four r ≡ seventhRoots p (four y) ⌝ }
 {
-    let two = raised4(y, 3, y);
-    let four = raised4(two, 6, two);
-    let five = raised4(four, 3, y);
-    let ten = raised4(five, 15, five);
-    let both = raised4(ten, 31, ten);
-    let most = raised4(both, 1, ten);
-    let last = raised4(most, 2, y);
-    let next = raised4(last, 1, y);
-    words4(raised4(next, 1, y))
+    let squarings = [3usize, 6, 3, 15, 31, 1, 2, 1, 1];
+    let mut r = y;
+    let mut ten = y;
+    let mut k = 0;
+    while k < 9 {
+        let factor = factor4(k, y, r, ten);
+        if k == 4 {
+            ten = r;
+        }
+        let next = raised4(r, squarings[k], factor);
+        r = next;
+        k += 1;
+    }
+    words4(r)
 }
 
 fn raised8(x: [[u64; 4]; 2], n: usize, y: [[u64; 4]; 2]) -> [[u64; 4]; 2]
@@ -65,27 +99,49 @@ fn raised8(x: [[u64; 4]; 2], n: usize, y: [[u64; 4]; 2]) -> [[u64; 4]; 2]
     let mut r = x;
     let mut i = 0;
     while i < n {
-        let next = [times4(r[0], r[0]), times4(r[1], r[1])];
+        let next = [squares4(r[0]), squares4(r[1])];
         r = next;
         i += 1;
     }
     [times4(r[0], y[0]), times4(r[1], y[1])]
 }
 
+fn factor8(k: usize, y: [[u64; 4]; 2], r: [[u64; 4]; 2], ten: [[u64; 4]; 2]) -> [[u64; 4]; 2]
+    ensures { λ f. ⌜ f ≡ factor k y r ten ⌝ }
+{
+    if k == 5 {
+        return ten;
+    }
+    if k == 1 {
+        return r;
+    }
+    if k == 3 {
+        return r;
+    }
+    if k == 4 {
+        return r;
+    }
+    y
+}
+
 pub fn seventh_roots8(y: [[u64; 4]; 2]) -> [[u64; 4]; 2]
     requires { ⌜ Words p (flat 2 y) ⌝ }
     ensures { λ r. ⌜ flat 2 r ≡ seventhRoots p (flat 2 y) ⌝ }
 {
-    let two = raised8(y, 3, y);
-    let four = raised8(two, 6, two);
-    let five = raised8(four, 3, y);
-    let ten = raised8(five, 15, five);
-    let both = raised8(ten, 31, ten);
-    let most = raised8(both, 1, ten);
-    let last = raised8(most, 2, y);
-    let next = raised8(last, 1, y);
-    let root = raised8(next, 1, y);
-    [words4(root[0]), words4(root[1])]
+    let squarings = [3usize, 6, 3, 15, 31, 1, 2, 1, 1];
+    let mut r = y;
+    let mut ten = y;
+    let mut k = 0;
+    while k < 9 {
+        let factor = factor8(k, y, r, ten);
+        if k == 4 {
+            ten = r;
+        }
+        let next = raised8(r, squarings[k], factor);
+        r = next;
+        k += 1;
+    }
+    [words4(r[0]), words4(r[1])]
 }
 
 fn raised12(x: [[u64; 4]; 3], n: usize, y: [[u64; 4]; 3]) -> [[u64; 4]; 3]
@@ -94,25 +150,47 @@ fn raised12(x: [[u64; 4]; 3], n: usize, y: [[u64; 4]; 3]) -> [[u64; 4]; 3]
     let mut r = x;
     let mut i = 0;
     while i < n {
-        let next = [times4(r[0], r[0]), times4(r[1], r[1]), times4(r[2], r[2])];
+        let next = [squares4(r[0]), squares4(r[1]), squares4(r[2])];
         r = next;
         i += 1;
     }
     [times4(r[0], y[0]), times4(r[1], y[1]), times4(r[2], y[2])]
 }
 
+fn factor12(k: usize, y: [[u64; 4]; 3], r: [[u64; 4]; 3], ten: [[u64; 4]; 3]) -> [[u64; 4]; 3]
+    ensures { λ f. ⌜ f ≡ factor k y r ten ⌝ }
+{
+    if k == 5 {
+        return ten;
+    }
+    if k == 1 {
+        return r;
+    }
+    if k == 3 {
+        return r;
+    }
+    if k == 4 {
+        return r;
+    }
+    y
+}
+
 pub fn seventh_roots12(y: [[u64; 4]; 3]) -> [[u64; 4]; 3]
     requires { ⌜ Words p (flat 3 y) ⌝ }
     ensures { λ r. ⌜ flat 3 r ≡ seventhRoots p (flat 3 y) ⌝ }
 {
-    let two = raised12(y, 3, y);
-    let four = raised12(two, 6, two);
-    let five = raised12(four, 3, y);
-    let ten = raised12(five, 15, five);
-    let both = raised12(ten, 31, ten);
-    let most = raised12(both, 1, ten);
-    let last = raised12(most, 2, y);
-    let next = raised12(last, 1, y);
-    let root = raised12(next, 1, y);
-    [words4(root[0]), words4(root[1]), words4(root[2])]
+    let squarings = [3usize, 6, 3, 15, 31, 1, 2, 1, 1];
+    let mut r = y;
+    let mut ten = y;
+    let mut k = 0;
+    while k < 9 {
+        let factor = factor12(k, y, r, ten);
+        if k == 4 {
+            ten = r;
+        }
+        let next = raised12(r, squarings[k], factor);
+        r = next;
+        k += 1;
+    }
+    [words4(r[0]), words4(r[1]), words4(r[2])]
 }

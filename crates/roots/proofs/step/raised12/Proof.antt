@@ -21,12 +21,16 @@ loop-holds c = (omega arith, omega arith, squared-none _)
 
 loop-again : tie.Need-loop-again Inv-loop μ-loop
 loop-again c =
-    let c2 = c .before .before .before in
-    let c1 = c2 .before .before .before in
-    let l = c1 .before .before .before .before in
+    let c2 = c .before .before in
+    let c1 = c2 .before .before in
+    let l = c1 .before .before .before in
     let r = l .loop .r in
-    let next = c1 .times4 .result ∷ c2 .times42 .result ∷ c .times43 .result ∷ [] in
-    (omega arith, refl, squared-more (l .loop .i) (flat 3 next) (l .loop .inv .2) (products-three next r r (c1 .times4 .ensures) (c2 .times42 .ensures) (c .times43 .ensures)))
+    let next = c1 .squares4 .result ∷ c2 .squares42 .result ∷ c .squares43 .result ∷ [] in (
+      omega arith,
+      refl,
+      squared-more (l .loop .i) (flat 3 next) (l .loop .inv .2)
+          (products-three next r r (c1 .squares4 .ensures) (c2 .squares42 .ensures) (c .squares43 .ensures)),
+    )
 
 returns : tie.Need-returns Inv-loop μ-loop
 returns c =
@@ -34,10 +38,14 @@ returns c =
     let c1 = c2 .before .before .before in
     let l = c1 .before .before .before .before in
     let a = l .before .args in
-    let last = c1 .times44 .result ∷ c2 .times45 .result ∷ c .times46 .result ∷ [] in
-    squared-times (l .loop .i) (a .n) (flat 3 (a .t3)) (flat 3 last) (omega arith) (l .loop .inv .2) (products-three last (l .loop .r) (a .t3) (c1 .times44 .ensures) (c2 .times45 .ensures) (c .times46 .ensures))
+    let last = c1 .times4 .result ∷ c2 .times42 .result ∷ c .times43 .result ∷ [] in
+    squared-times (l .loop .i) (a .n) (flat 3 (a .t3)) (flat 3 last) (omega arith) (l .loop .inv .2)
+    (products-three last (l .loop .r) (a .t3) (c1 .times4 .ensures) (c2 .times42 .ensures) (c .times43 .ensures))
 
 pub raised12-spec : {M : Type 1} → statement M
 raised12-spec =
     tie.close
-    (tie.spec Inv-loop μ-loop loop-holds (λ c. omega arith) (λ c. omega arith) (λ c κs. search needs) (λ c. omega arith) (λ c. omega arith) (λ c κs. search needs) (λ c. omega arith) (λ c. omega arith) (λ c κs. search needs) (λ c. omega arith) (λ c. omega arith) loop-again (λ c. omega arith) (λ c. omega arith) (λ c κs. search needs) (λ c. omega arith) (λ c. omega arith) (λ c κs. search needs) (λ c. omega arith) (λ c. omega arith) (λ c κs. search needs) returns)
+    (tie.spec Inv-loop μ-loop loop-holds (λ c. omega arith) (λ c κs. search needs) (λ c. omega arith) (λ c κs. search needs)
+    (λ c. omega arith) (λ c κs. search needs) (λ c. omega arith) (λ c. omega arith) loop-again (λ c. omega arith) (λ c. omega arith)
+    (λ c κs. search needs) (λ c. omega arith) (λ c. omega arith) (λ c κs. search needs) (λ c. omega arith) (λ c. omega arith)
+    (λ c κs. search needs) returns)

@@ -19,13 +19,13 @@ loop-holds c = (omega arith, squared-none _)
 loop-again : tie.Need-loop-again Inv-loop μ-loop
 loop-again c =
     let l = c .before .before in
-    (omega arith, squared-more (l .loop .i) (four (c .times4 .result)) (l .loop .inv .1) (c .times4 .ensures))
+    (omega arith, squared-more (l .loop .i) (four (c .squares4 .result)) (l .loop .inv .1) (c .squares4 .ensures))
 
 returns : tie.Need-returns Inv-loop μ-loop
 returns c =
     let l = c .before .before in
     let a = l .before .args in
-    squared-times (l .loop .i) (a .n) (four (a .y)) (four (c .times42 .result)) (omega arith) (l .loop .inv .1) (c .times42 .ensures)
+    squared-times (l .loop .i) (a .n) (four (a .y)) (four (c .times4 .result)) (omega arith) (l .loop .inv .1) (c .times4 .ensures)
 
 pub raised4-spec : {M : Type 1} → statement M
 raised4-spec =

@@ -21,21 +21,28 @@ loop-holds c = (omega arith, omega arith, squared-none _)
 
 loop-again : tie.Need-loop-again Inv-loop μ-loop
 loop-again c =
-    let c1 = c .before .before .before in
-    let l = c1 .before .before .before .before in
+    let c1 = c .before .before in
+    let l = c1 .before .before .before in
     let r = l .loop .r in
-    let next = c1 .times4 .result ∷ c .times42 .result ∷ [] in
-    (omega arith, refl, squared-more (l .loop .i) (flat 2 next) (l .loop .inv .2) (products-two next r r (c1 .times4 .ensures) (c .times42 .ensures)))
+    let next = c1 .squares4 .result ∷ c .squares42 .result ∷ [] in (
+      omega arith,
+      refl,
+      squared-more (l .loop .i) (flat 2 next) (l .loop .inv .2)
+          (products-two next r r (c1 .squares4 .ensures) (c .squares42 .ensures)),
+    )
 
 returns : tie.Need-returns Inv-loop μ-loop
 returns c =
     let c1 = c .before .before .before in
     let l = c1 .before .before .before .before in
     let a = l .before .args in
-    let last = c1 .times43 .result ∷ c .times44 .result ∷ [] in
-    squared-times (l .loop .i) (a .n) (flat 2 (a .t3)) (flat 2 last) (omega arith) (l .loop .inv .2) (products-two last (l .loop .r) (a .t3) (c1 .times43 .ensures) (c .times44 .ensures))
+    let last = c1 .times4 .result ∷ c .times42 .result ∷ [] in
+    squared-times (l .loop .i) (a .n) (flat 2 (a .t3)) (flat 2 last) (omega arith) (l .loop .inv .2)
+    (products-two last (l .loop .r) (a .t3) (c1 .times4 .ensures) (c .times42 .ensures))
 
 pub raised8-spec : {M : Type 1} → statement M
 raised8-spec =
     tie.close
-    (tie.spec Inv-loop μ-loop loop-holds (λ c. omega arith) (λ c. omega arith) (λ c κs. search needs) (λ c. omega arith) (λ c. omega arith) (λ c κs. search needs) (λ c. omega arith) (λ c. omega arith) loop-again (λ c. omega arith) (λ c. omega arith) (λ c κs. search needs) (λ c. omega arith) (λ c. omega arith) (λ c κs. search needs) returns)
+    (tie.spec Inv-loop μ-loop loop-holds (λ c. omega arith) (λ c κs. search needs) (λ c. omega arith) (λ c κs. search needs)
+    (λ c. omega arith) (λ c. omega arith) loop-again (λ c. omega arith) (λ c. omega arith) (λ c κs. search needs) (λ c. omega arith)
+    (λ c. omega arith) (λ c κs. search needs) returns)
