@@ -173,7 +173,7 @@ fn are_inverses(diagonal: &[u64], list: &[u64]) -> bool
 }
 
 // A word and some words, added up.
-pub fn sum_from(start: u64, words: &[u64]) -> u64
+fn sum_from(start: u64, words: &[u64]) -> u64
     requires { ⌜ (start < prime) × Words prime (now words) ⌝ }
     ensures { λ r. ⌜ r ≡ (start + sum (now (words .entry))) % prime ⌝ }
 {
