@@ -28,9 +28,9 @@ use denote.Steps.{only}
 use borrow.Rule.Slice.Prefix.{shs-prefix-same}
 use borrow.Table.Copies.{halved, cStruct}
 use borrow.Table.Owned as owned
-use Rattle.pushes.specs.declared.record.Record.{Record}
-use Rattle.pushes.proofs.record.Record as T
-use Rattle.pushes.proofs.record.Record.Laws as T′
+use Rattle.records.specs.declared.record.Record.{Record}
+use Rattle.records.proofs.record.Record as T
+use Rattle.records.proofs.record.Record.Laws as T′
 
 abbrev pub R : RattleType
 R = T.the-row

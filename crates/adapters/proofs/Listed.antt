@@ -5,8 +5,8 @@ use Prim.Native.Nat.{ℕ, suc, _+_, _/_, _<_, min}
 use native.Mathlib.Numerals.{add-one}
 use lib.ListN.{length, take, set, length-set}
 use lib.Seq.{take-suc-set}
-use Rattle.pushes.specs.declared.record.Record.{Record}
-use Rattle.pushes.specs.Listed.{recordAt, recordsOf}
+use Rattle.records.specs.declared.record.Record.{Record}
+use Rattle.records.specs.Listed.{recordAt, recordsOf}
 use Rattle.adapters.specs.Listed.{firstRecords}
 
 -- the first i are there

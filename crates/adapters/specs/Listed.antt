@@ -2,8 +2,8 @@
 use mathlib.Core.List.{List}
 use Prim.Native.Nat.{ℕ, _/_, min}
 use lib.ListN.{length}
-use Rattle.pushes.specs.declared.record.Record.{Record}
-use Rattle.pushes.specs.Listed.{recordsOf}
+use Rattle.records.specs.declared.record.Record.{Record}
+use Rattle.records.specs.Listed.{recordsOf}
 
 -- at most 192
 unfoldable pub firstRecords : List ℕ → List Record

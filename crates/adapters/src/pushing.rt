@@ -7,7 +7,7 @@ ghost use Rattle.push_entries.specs.Pushes.{pushReply, pushed};
 ghost use Rattle.adapters.specs.Listed.{firstRecords};
 use change_entries::Changed;
 use parameters::ParameterSet;
-use pushes::Record;
+use records::Record;
 
 // A push of the first records of an array.
 pub fn push_first(
@@ -46,7 +46,7 @@ pub fn push_list(set: ParameterSet, store: &mut [u64], numbers: &[u64]) -> Chang
     let mut records = [blank; 192];
     let mut i: usize = 0;
     while i < count {
-        let next = pushes::listing::record_at(numbers, i);
+        let next = records::listing::record_at(numbers, i);
         records[i] = next;
         i += 1;
     }

@@ -21,8 +21,8 @@ use Rattle.merkle.proofs.Lists.{length-put, words-put}
 use Rattle.merkle.proofs.Levels.{fits}
 use Rattle.trees.specs.SetTrees.{treeOf, leafCount}
 use Rattle.tree_entries.specs.Trees.{has}
-use Rattle.pushes.specs.declared.record.Record.{Record}
-use Rattle.pushes.specs.Records.{leafOf, changesOf, placesBelow, usedWords, SixWords}
+use Rattle.records.specs.declared.record.Record.{Record}
+use Rattle.records.specs.Records.{leafOf, changesOf, placesBelow, usedWords, SixWords}
 use Rattle.push_entries.specs.Pushes.{fewRecords}
 use Rattle.history.specs.LeafBook.{Call, replacement, push, enterAll, bookRefusals, bookCount, bookReply, entered, bookAfter}
 use Rattle.history.proofs.Replies.{after-holds}

@@ -23,9 +23,9 @@ use Rattle.tree_entries.specs.Trees.{has, noPlace}
 use Rattle.trees.proofs.SetTrees.{laws}
 use Rattle.change_entries.specs.Replacement.{replaceRefusals, replaceReply, replaced}
 use Rattle.change_entries.specs.Replacement as entry
-use Rattle.pushes.specs.declared.record.Record.{Record}
-use Rattle.pushes.specs.Records.{changesOf, placesOf, placesBelow, usedWords, SixWords}
-use Rattle.pushes.proofs.Changes.{changes-places}
+use Rattle.records.specs.declared.record.Record.{Record}
+use Rattle.records.specs.Records.{changesOf, placesOf, placesBelow, usedWords, SixWords}
+use Rattle.records.proofs.Changes.{changes-places}
 use Rattle.push_entries.specs.Pushes.{fewRecords, pushRefusals, pushing, pushReply, pushed}
 use Rattle.history.specs.LeafBook.{Call, replacement, push, bookRefusals, bookCount, bookReply, entered, bookAfter}
 use Rattle.history.specs.History.{callReply, callStore}

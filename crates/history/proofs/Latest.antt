@@ -18,8 +18,8 @@ use Rattle.merkle.specs.Replacement.{Change}
 use Rattle.merkle.proofs.Lists.{part-put, part-put-before, part-put-behind}
 use Rattle.merkle.proofs.Levels.{fits}
 use Rattle.trees.specs.SetTrees.{leafCount}
-use Rattle.pushes.specs.declared.record.Record.{Record}
-use Rattle.pushes.specs.Records.{leafOf, changesOf, usedWords, SixWords}
+use Rattle.records.specs.declared.record.Record.{Record}
+use Rattle.records.specs.Records.{leafOf, changesOf, usedWords, SixWords}
 use Rattle.history.specs.LeafBook.{Call, replacement, push, leafAt, enterAll, bookRefusals, bookCount, bookReply, entered, bookAfter, bookLeaves}
 use Rattle.history.specs.Demand3.{Typed}
 use Rattle.history.specs.Latest.{brought, ifAccepted, accepted, lastFor, Latest}

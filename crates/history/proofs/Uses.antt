@@ -17,8 +17,8 @@ use Rattle.repeats.specs.Repeats.{repeats}
 use Rattle.trees.specs.SetTrees.{leafCount, storeWords, openingWords}
 use Rattle.tree_entries.specs.Trees.{has, built, opened, verifyReply}
 use Rattle.trees.proofs.SetTrees.{laws}
-use Rattle.pushes.specs.declared.record.Record.{Record}
-use Rattle.pushes.specs.Records.{placesOf, placesBelow, usedWords, SixWords}
+use Rattle.records.specs.declared.record.Record.{Record}
+use Rattle.records.specs.Records.{placesOf, placesBelow, usedWords, SixWords}
 use Rattle.push_entries.specs.Pushes.{fewRecords}
 use Rattle.push_entries.proofs.Statements.{few-nodes}
 use Rattle.extraction_entries.specs.Extraction.{Pair, extractRefusals, collision, levelOf, extractReply, extractedFirst, extractedSecond}

@@ -11,7 +11,7 @@ use Rattle.trees.specs.SetTrees.{treeOf, leafCount, storeWords, openingWords}
 use Rattle.tree_entries.specs.Trees.{buildReply, built, openReply, opened, verifyReply}
 use Rattle.extraction_entries.specs.Extraction.{pair}
 use Rattle.extraction_entries.specs.Statements.{Collides}
-use Rattle.pushes.specs.Records.{SixWords}
+use Rattle.records.specs.Records.{SixWords}
 use Rattle.history.specs.LeafBook.{Call, replacement, push, leafAt, bookLeaves, bookAnswers}
 use Rattle.history.specs.History.{Ran, run}
 

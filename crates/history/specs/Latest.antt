@@ -10,7 +10,7 @@ use Rattle.parameters.specs.declared.ParameterSet.{ParameterSet}
 use Rattle.merkle.specs.Replacement.{Change}
 use Rattle.trees.specs.SetTrees.{leafCount, leafWords}
 use Rattle.tree_entries.specs.Trees.{buildReply}
-use Rattle.pushes.specs.Records.{changesOf}
+use Rattle.records.specs.Records.{changesOf}
 use Rattle.history.specs.LeafBook.{Call, replacement, push, leafAt, bookReply, bookLeaves}
 use Rattle.history.specs.Demand3.{Typed}
 

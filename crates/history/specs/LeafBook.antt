@@ -12,8 +12,8 @@ use Rattle.merkle.specs.Lists.{part, put}
 use Rattle.repeats.specs.Repeats.{repeats}
 use Rattle.trees.specs.SetTrees.{treeOf, leafCount}
 use Rattle.tree_entries.specs.Trees.{has}
-use Rattle.pushes.specs.declared.record.Record.{Record}
-use Rattle.pushes.specs.Records.{leafOf, placesOf, placesBelow, usedWords}
+use Rattle.records.specs.declared.record.Record.{Record}
+use Rattle.records.specs.Records.{leafOf, placesOf, placesBelow, usedWords}
 use Rattle.push_entries.specs.Pushes.{fewRecords}
 
 -- A call's arguments beside the set and the store: a place and a leaf, or a list of records.

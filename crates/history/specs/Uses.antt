@@ -17,8 +17,8 @@ use Rattle.trees.specs.SetTrees.{treeOf, leafCount, openingWords}
 use Rattle.tree_entries.specs.Trees.{buildReply, built, opened, verifyReply}
 use Rattle.extraction_entries.specs.Extraction.{pair}
 use Rattle.extraction_entries.specs.Statements.{IsRow, Collides}
-use Rattle.pushes.specs.declared.record.Record.{Record}
-use Rattle.pushes.specs.Records.{placesOf, placesBelow, usedWords, SixWords}
+use Rattle.records.specs.declared.record.Record.{Record}
+use Rattle.records.specs.Records.{placesOf, placesBelow, usedWords, SixWords}
 use Rattle.history.specs.LeafBook.{Call, replacement, push, leafAt, bookLeaves, bookAnswers}
 use Rattle.history.specs.History.{Ran, run}
 use Rattle.history.specs.Demand3.{Typed, rootOf}

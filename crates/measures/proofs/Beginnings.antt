@@ -8,7 +8,7 @@ use borrow.Author.Tests.{leb-true}
 use Rattle.modular.proofs.Words.{right-true}
 use Rattle.parameters.specs.declared.ParameterSet.{ParameterSet}
 use Rattle.repeats.specs.Maps.{mapWords}
-use Rattle.pushes.specs.Passes.{keepable, roomOf, Going}
+use Rattle.records.specs.Tests.{keepable, roomOf, Going}
 use Rattle.measures.specs.Pushed.{beginning, Pushable}
 
 module _ (s : ParameterSet) (n m : ℕ) (P : Pushable s n m) where

@@ -9,9 +9,10 @@ use Rattle.refusals.specs.Table.{firstRefusal}
 use Rattle.parameters.specs.declared.ParameterSet.{ParameterSet}
 use Rattle.parameters.specs.ParameterSet.{setRefusals}
 use Rattle.trees.specs.SetTrees.{leafCount}
-use Rattle.pushes.specs.declared.record.Record.{Record}
-use Rattle.pushes.specs.declared.tally.Tally.{Tally}
-use Rattle.pushes.specs.Passes.{pass, keepable, eachOf, searchOf}
+use Rattle.records.specs.declared.record.Record.{Record}
+use Rattle.records.specs.declared.tally.Tally.{Tally}
+use Rattle.records.specs.Tests.{pass, keepable}
+use Rattle.pushes.specs.Passes.{eachOf, searchOf}
 
 -- a tally at the beginning: whether the places rise so far, and whether they are few enough to be compared
 abbrev pub beginning : ℕ → Bool → Bool → Tally

@@ -3,10 +3,10 @@ ghost use mathlib.Core.Path.{_≡_};
 ghost use Prim.Native.Nat.{_/_};
 ghost use lib.ListN.{length};
 ghost use Rattle.set_arrays.specs.Arrays.{setOf};
-ghost use Rattle.pushes.specs.Listed.{listed};
+ghost use Rattle.records.specs.Listed.{listed};
 ghost use Rattle.measures.specs.Pushed.{beginning, found, firstPass, searching, Pushable};
-use pushes::steps::both;
-use pushes::tally::Tally;
+use records::tally::Tally;
+use records::testing::both;
 
 fn beginning(places: u64, rising: bool, few: bool) -> Tally
     ensures { λ r. ⌜ r ≡ beginning places rising few ⌝ }

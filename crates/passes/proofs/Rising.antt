@@ -20,9 +20,10 @@ use Rattle.trees.specs.Shapes.{counted}
 use Rattle.trees.specs.SetTrees.{treeOf, dimensionsOf, leafCount}
 use Rattle.trees.proofs.SetTrees as tree-of
 use Rattle.marks.specs.Marks.{mark, Rank}
-use Rattle.pushes.specs.declared.record.Record.{Record}
-use Rattle.pushes.specs.declared.tally.Tally.{Tally}
-use Rattle.pushes.specs.Passes.{Pass, pass, Going, Rising, Risen, mayWrite, ranked, counting, wrote, riseOf, stepOf, eachOf, byRecords, nextOf, upwards, levelsUpTo, levelsOf, roomOf}
+use Rattle.records.specs.declared.record.Record.{Record}
+use Rattle.records.specs.declared.tally.Tally.{Tally}
+use Rattle.records.specs.Tests.{Pass, pass, Going, ranked, roomOf}
+use Rattle.pushes.specs.Passes.{Rising, Risen, mayWrite, counting, wrote, riseOf, stepOf, eachOf, byRecords, nextOf, upwards, levelsUpTo, levelsOf}
 use Rattle.pushes.proofs.Records.{rise-unrefused, one-at-most}
 use Rattle.pushes.proofs.Ranks.{some-level, first-under, next-before, next-under}
 

@@ -16,10 +16,11 @@ use Rattle.repeats.proofs.Members.{repeats-more, times, once-all}
 use Rattle.repeats.proofs.Notes.{Noted, noted-none, noted-once, noted-again, noted-new}
 use Rattle.trees.specs.SetTrees.{storeWords}
 use Rattle.trees.proofs.SetTrees as tree-of
-use Rattle.pushes.specs.declared.record.Record.{Record}
-use Rattle.pushes.specs.declared.tally.Tally.{Tally}
-use Rattle.pushes.specs.Records.{placesOf, placesBelow}
-use Rattle.pushes.specs.Passes.{Pass, pass, keepable, isClear, finding, found, noteOf, stepOf, eachOf, windowsOf, wanted, windowsFor, searchEnd, searchOf, roomOf, Going}
+use Rattle.records.specs.declared.record.Record.{Record}
+use Rattle.records.specs.declared.tally.Tally.{Tally}
+use Rattle.records.specs.Records.{placesOf, placesBelow}
+use Rattle.records.specs.Tests.{Pass, pass, keepable, isClear, finding, found, noteOf, wanted, windowsFor, searchEnd, roomOf, Going}
+use Rattle.pushes.specs.Passes.{stepOf, eachOf, windowsOf, searchOf}
 use Rattle.passes.proofs.Tests.{Seen}
 
 abbrev zeros : List ℕ

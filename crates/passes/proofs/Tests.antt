@@ -15,10 +15,11 @@ use Rattle.parameters.specs.declared.ParameterSet.{ParameterSet}
 use Rattle.parameters.specs.ParameterSet.{primeOf}
 use Rattle.repeats.specs.Repeats.{member, repeats}
 use Rattle.repeats.proofs.Members.{member-last, repeats-last}
-use Rattle.pushes.specs.declared.record.Record.{Record}
-use Rattle.pushes.specs.declared.tally.Tally.{Tally}
-use Rattle.pushes.specs.Records.{leafOf, placesOf, placesBelow, usedWords}
-use Rattle.pushes.specs.Passes.{Pass, pass, keepable, aboveOf, freshOf, keeping, oneMore, rises, tested, testOf, stepOf, eachOf}
+use Rattle.records.specs.declared.record.Record.{Record}
+use Rattle.records.specs.declared.tally.Tally.{Tally}
+use Rattle.records.specs.Records.{leafOf, placesOf, placesBelow, usedWords}
+use Rattle.records.specs.Tests.{Pass, pass, keepable, aboveOf, freshOf, keeping, oneMore, rises, tested, testOf}
+use Rattle.pushes.specs.Passes.{stepOf, eachOf}
 
 -- ---- what does not hang on the places
 

@@ -9,11 +9,12 @@ use native.Mathlib.Omega.{arith}
 use lib.ListN.{length, getD, take, drop, drop-of-length-le}
 use lib.Seq.{drop-cons}
 use Rattle.parameters.specs.declared.ParameterSet.{ParameterSet}
-use Rattle.pushes.specs.declared.record.Record.{Record}
-use Rattle.pushes.specs.declared.tally.Tally.{Tally}
-use Rattle.pushes.specs.Listed.{recordAt, listed}
-use Rattle.pushes.specs.Passes.{Pass, pass, Going, mayRise, markLeaf, markOf, stepOf, eachOf}
-use Rattle.pushes.proofs.Listed.{wordsPart, words-at, listed-count, listed-at}
+use Rattle.records.specs.declared.record.Record.{Record}
+use Rattle.records.specs.declared.tally.Tally.{Tally}
+use Rattle.records.specs.Listed.{recordAt, listed}
+use Rattle.records.specs.Tests.{Pass, pass, Going}
+use Rattle.pushes.specs.Passes.{mayRise, markLeaf, markOf, stepOf, eachOf}
+use Rattle.records.proofs.Listed.{wordsPart, words-at, listed-count, listed-at}
 use Rattle.pushes.proofs.Records.{mark-tally, goes-on}
 
 -- stands where a list has no record

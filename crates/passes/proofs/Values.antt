@@ -8,10 +8,10 @@ use denote.Struct.Laws as LL
 use Rattle.parameters.specs.declared.ParameterSet.{ParameterSet}
 use Rattle.parameters.proofs.ParameterSet as P
 use Rattle.parameters.proofs.ParameterSet.Laws as P′
-use Rattle.pushes.specs.declared.tally.Tally.{Tally}
-use Rattle.pushes.proofs.record.Record as T
-use Rattle.pushes.proofs.tally.Tally as Y
-use Rattle.pushes.proofs.tally.Tally.Laws as Y′
+use Rattle.records.specs.declared.tally.Tally.{Tally}
+use Rattle.records.proofs.record.Record as T
+use Rattle.records.proofs.tally.Tally as Y
+use Rattle.records.proofs.tally.Tally.Laws as Y′
 
 abbrev pub R : RattleType
 R = T.the-row

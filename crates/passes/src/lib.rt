@@ -4,14 +4,16 @@ ghost use mathlib.Core.Path.{_≡_};
 ghost use Prim.Native.Nat.{_/_};
 ghost use lib.ListN.{length, replicate};
 ghost use Rattle.repeats.specs.Maps.{mapWords};
-ghost use Rattle.pushes.specs.Listed.{listed};
-ghost use Rattle.pushes.specs.Passes.{pass, Going, Rising, eachOf, searchOf, levelsOf};
+ghost use Rattle.records.specs.Listed.{listed};
+ghost use Rattle.records.specs.Tests.{pass, Going};
+ghost use Rattle.pushes.specs.Passes.{Rising, eachOf, searchOf, levelsOf};
 use parameters::ParameterSet;
-use pushes::Record;
 use pushes::levels;
-use pushes::listing;
 use pushes::steps;
-use pushes::tally::Tally;
+use records::Record;
+use records::listing;
+use records::tally::Tally;
+use records::testing;
 
 // The phases: what a pass does with each record. From the last on, it searches a window of places each.
 pub const TEST: u64 = 0;
@@ -48,7 +50,7 @@ pub fn search(set: ParameterSet, records: &[Record], tally: Tally) -> Tally
     requires { ⌜ Going set 3 (replicate mapWords 0) tally (length (now records)) ⌝ }
     ensures { λ r. ⌜ r ≡ searchOf set (now (records .entry)) tally ⌝ }
 {
-    let end = steps::search_end(tally);
+    let end = testing::search_end(tally);
     let mut phase = SEARCH;
     let mut sum = tally;
     while phase < end {
@@ -105,7 +107,7 @@ pub fn search_listed(set: ParameterSet, numbers: &[u64], tally: Tally) -> Tally
     requires { ⌜ Going set 3 (replicate mapWords 0) tally (length (now numbers) / 7) ⌝ }
     ensures { λ r. ⌜ r ≡ searchOf set (listed (now (numbers .entry))) tally ⌝ }
 {
-    let end = steps::search_end(tally);
+    let end = testing::search_end(tally);
     let mut phase = SEARCH;
     let mut sum = tally;
     while phase < end {
@@ -128,7 +130,7 @@ pub fn test_listed(set: ParameterSet, seen: &mut [u64], numbers: &[u64], tally: 
     let mut sum = tally;
     while i < count {
         let item = listing::record_at(numbers, i);
-        let next = steps::test_record(set, seen, sum, item);
+        let next = testing::test_record(set, seen, sum, item);
         sum = next;
         i += 1;
     }

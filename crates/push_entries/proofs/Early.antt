@@ -13,7 +13,8 @@ use Rattle.parameters.specs.ParameterSet.{primeOf, setRefusals}
 use Rattle.parameters.proofs.Accepted.{set-numbered}
 use Rattle.trees.specs.SetTrees.{dimensionsOf, leafCount, storeWords}
 use Rattle.tree_entries.specs.Trees.{has}
-use Rattle.pushes.specs.Passes.{keepable, levelsBy}
+use Rattle.records.specs.Tests.{keepable}
+use Rattle.pushes.specs.Passes.{levelsBy}
 use Rattle.push_entries.specs.Ends.{earlyRefusals, begun, beginOf}
 
 module _ (s : ParameterSet) (store : List ℕ) (n : ℕ) where

@@ -18,16 +18,17 @@ use Rattle.trees.specs.SetTrees.{leafCount, storeWords}
 use Rattle.tree_entries.specs.Trees.{has}
 use Rattle.change_entries.specs.declared.changed.Changed.{Changed}
 use Rattle.change_entries.specs.Replacement.{changedReply}
-use Rattle.pushes.specs.declared.record.Record.{Record}
-use Rattle.pushes.specs.declared.tally.Tally.{Tally}
-use Rattle.pushes.specs.Records.{placesOf, placesBelow, usedWords}
+use Rattle.records.specs.declared.record.Record.{Record}
+use Rattle.records.specs.declared.tally.Tally.{Tally}
+use Rattle.records.specs.Records.{placesOf, placesBelow, usedWords}
 use Rattle.push_entries.specs.Pushes.{fewRecords, pushing, pushRefusals, pushReply, pushed}
-use Rattle.pushes.specs.Passes.{Pass, pass, keepable, Going, Rising, Sweeping, eachOf, searchOf, levelsOf, sweepOf}
+use Rattle.records.specs.Tests.{Pass, pass, keepable, Going}
+use Rattle.pushes.specs.Passes.{Rising, Sweeping, eachOf, searchOf, levelsOf, sweepOf}
 use Rattle.push_entries.specs.Ends.{beginOf, finishOf}
 use Rattle.push_entries.proofs.Passes.{begins, afterTests, afterSearch, afterMarks, afterLevels, pushes, at-once, first-asks, second-asks, third-asks, fourth-asks, fifth-asks}
-use Rattle.pushes.specs.Listed.{listed, wholeRecords}
+use Rattle.records.specs.Listed.{listed, wholeRecords}
 use Rattle.push_entries.specs.Listed.{listedRefusals, listedReply, listedPushed}
-use Rattle.pushes.proofs.Listed.{listed-count}
+use Rattle.records.proofs.Listed.{listed-count}
 
 -- the number that refuses records that are not whole: never 0
 abbrev partRefusal : ParameterSet → ℕ

@@ -25,11 +25,12 @@ use Rattle.trees.specs.SetTrees.{treeOf, dimensionsOf, leafCount, storeWords}
 use Rattle.trees.proofs.SetTrees as tree-of
 use Rattle.tree_entries.specs.Trees.{has}
 use Rattle.change_entries.specs.Replacement.{changedReply}
-use Rattle.pushes.specs.declared.record.Record.{Record}
-use Rattle.pushes.specs.declared.tally.Tally.{Tally}
-use Rattle.pushes.specs.Records.{placesOf, placesBelow, usedWords}
+use Rattle.records.specs.declared.record.Record.{Record}
+use Rattle.records.specs.declared.tally.Tally.{Tally}
+use Rattle.records.specs.Records.{placesOf, placesBelow, usedWords}
 use Rattle.push_entries.specs.Pushes.{pushRefusals, pushing, pushReply, pushed}
-use Rattle.pushes.specs.Passes.{Pass, pass, keepable, testOf, isClear, mayRise, ranked, counting, finding, stepOf, eachOf, wanted, searchOf, levelsBy, byRecords, levelsUpTo, levelsOf, sweepOf, roomOf, Going, Rising, Sweeping}
+use Rattle.records.specs.Tests.{Pass, pass, keepable, testOf, isClear, ranked, finding, wanted, roomOf, Going}
+use Rattle.pushes.specs.Passes.{mayRise, counting, stepOf, eachOf, searchOf, levelsBy, byRecords, levelsUpTo, levelsOf, sweepOf, Rising, Sweeping}
 use Rattle.passes.proofs.Tests.{Tested, tested-all, Seen, seen-all}
 use Rattle.passes.proofs.Searching.{search-none, search-finds, search-only}
 use Rattle.passes.proofs.Turns.{marks-tally, marks-none}

@@ -31,11 +31,11 @@ use Rattle.trees.proofs.SetTrees as tree-of
 use Rattle.tree_entries.specs.Trees.{has}
 use Rattle.change_entries.specs.Replacement.{replaceRefusals, replacement, replaceReply, replaced}
 use Rattle.change_entries.proofs.AcceptedChanges.{replace-numbered}
-use Rattle.pushes.specs.declared.record.Record.{Record}
-use Rattle.pushes.specs.Records.{leafOf, changesOf, placesOf, placesBelow, usedWords, SixWords}
-use Rattle.pushes.specs.Listed.{wholeRecords, flat}
-use Rattle.pushes.proofs.Changes.{changes-places, changes-words, changes-fit, changes-proper, length-places}
-use Rattle.pushes.proofs.Listed.{listed-six, flat-length, listed-flat}
+use Rattle.records.specs.declared.record.Record.{Record}
+use Rattle.records.specs.Records.{leafOf, changesOf, placesOf, placesBelow, usedWords, SixWords}
+use Rattle.records.specs.Listed.{wholeRecords, flat}
+use Rattle.records.proofs.Changes.{changes-places, changes-words, changes-fit, changes-proper, length-places}
+use Rattle.records.proofs.Listed.{listed-six, flat-length, listed-flat}
 use Rattle.push_entries.specs.Pushes.{fewRecords, pushRefusals, pushing, pushReply, pushed}
 use Rattle.push_entries.specs.Statements.{doneSingly, EachDone, Once, PushesOnce, SamePush, Read, ListedPushes}
 use Rattle.push_entries.proofs.Passes.{push-numbered}

@@ -25,11 +25,12 @@ use Rattle.trees.specs.SetTrees.{treeOf, dimensionsOf, leafCount, storeWords}
 use Rattle.trees.proofs.Shapes.{keeps-words}
 use Rattle.trees.proofs.SetTrees as tree-of
 use Rattle.marks.specs.Marks.{mark}
-use Rattle.pushes.specs.declared.record.Record.{Record}
-use Rattle.pushes.specs.declared.tally.Tally.{Tally}
-use Rattle.pushes.specs.Records.{leafOf, changesOf, placesOf, placesBelow, usedWords}
-use Rattle.pushes.specs.Passes.{Pass, pass, isClear, mayWrite, mayRise, ranked, counting, wrote, markLeaf, markOf, riseOf, stepOf, eachOf, byRecords, nextOf, upwards, levelsUpTo, levelsOf, sweepOf}
-use Rattle.pushes.proofs.Changes.{changes-places, changes-words, changes-fit}
+use Rattle.records.specs.declared.record.Record.{Record}
+use Rattle.records.specs.declared.tally.Tally.{Tally}
+use Rattle.records.specs.Records.{leafOf, changesOf, placesOf, placesBelow, usedWords}
+use Rattle.records.specs.Tests.{Pass, pass, isClear, ranked}
+use Rattle.pushes.specs.Passes.{mayWrite, mayRise, counting, wrote, markLeaf, markOf, riseOf, stepOf, eachOf, byRecords, nextOf, upwards, levelsUpTo, levelsOf, sweepOf}
+use Rattle.records.proofs.Changes.{changes-places, changes-words, changes-fit}
 use Rattle.pushes.proofs.Ranks.{first-under, next-before, next-under}
 
 -- ---- a tally that allows every write

@@ -12,8 +12,9 @@ use Rattle.trees.specs.SetTrees.{dimensionsOf, leafCount, storeWords}
 use Rattle.tree_entries.specs.Trees.{has}
 use Rattle.change_entries.specs.declared.changed.Changed.{Changed}
 use Rattle.change_entries.specs.declared.changed.Changed.the-variants.{Compressions, Refused}
-use Rattle.pushes.specs.declared.tally.Tally.{Tally}
-use Rattle.pushes.specs.Passes.{keepable, levelsBy}
+use Rattle.records.specs.declared.tally.Tally.{Tally}
+use Rattle.records.specs.Tests.{keepable}
+use Rattle.pushes.specs.Passes.{levelsBy}
 
 -- refusals 1 to 10, for n records
 unfoldable pub earlyRefusals : ParameterSet → List ℕ → ℕ → List Refusal

@@ -8,8 +8,8 @@ use Rattle.parameters.specs.ParameterSet.{primeOf, setRefusals}
 use Rattle.repeats.specs.Repeats.{repeats}
 use Rattle.trees.specs.SetTrees.{leafCount, storeWords}
 use Rattle.tree_entries.specs.Trees.{has}
-use Rattle.pushes.specs.Records.{placesOf, placesBelow, usedWords}
-use Rattle.pushes.specs.Listed.{listed, wholeRecords}
+use Rattle.records.specs.Records.{placesOf, placesBelow, usedWords}
+use Rattle.records.specs.Listed.{listed, wholeRecords}
 use Rattle.push_entries.specs.Pushes.{fewRecords, pushing}
 
 unfoldable pub listedRefusals : ParameterSet → List ℕ → List ℕ → List Refusal

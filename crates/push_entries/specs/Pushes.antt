@@ -11,8 +11,8 @@ use Rattle.merkle.specs.Replacement.{Counted, push}
 use Rattle.repeats.specs.Repeats.{repeats}
 use Rattle.trees.specs.SetTrees.{treeOf, leafCount, storeWords}
 use Rattle.tree_entries.specs.Trees.{has}
-use Rattle.pushes.specs.declared.record.Record.{Record}
-use Rattle.pushes.specs.Records.{changesOf, placesOf, placesBelow, usedWords}
+use Rattle.records.specs.declared.record.Record.{Record}
+use Rattle.records.specs.Records.{changesOf, placesOf, placesBelow, usedWords}
 
 -- There are at most 2^32 records: more are refused with 10 (Rules 5.4).
 abbrev pub fewRecords : List Record → Bool

@@ -11,9 +11,9 @@ use Rattle.merkle.specs.Above.{nodesAbove}
 use Rattle.merkle.specs.Replacement.{Counted, changed, levelwise}
 use Rattle.trees.specs.SetTrees.{treeOf}
 use Rattle.change_entries.specs.Replacement.{replaceReply, replaced}
-use Rattle.pushes.specs.declared.record.Record.{Record}
-use Rattle.pushes.specs.Records.{leafOf, changesOf, placesOf, SixWords}
-use Rattle.pushes.specs.Listed.{listed, wholeRecords, flat}
+use Rattle.records.specs.declared.record.Record.{Record}
+use Rattle.records.specs.Records.{leafOf, changesOf, placesOf, SixWords}
+use Rattle.records.specs.Listed.{listed, wholeRecords, flat}
 use Rattle.push_entries.specs.Pushes.{pushReply, pushed}
 use Rattle.push_entries.specs.Listed.{listedReply, listedPushed}
 

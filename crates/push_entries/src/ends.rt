@@ -8,7 +8,7 @@ ghost use Rattle.push_entries.specs.Ends.{beginOf, finishOf};
 use change_entries::Changed;
 use parameters::ParameterSet;
 use pushes::levels;
-use pushes::tally::Tally;
+use records::tally::Tally;
 use trees::sets;
 
 // The beginning of a push that one of refusals 1 to 10 stops.

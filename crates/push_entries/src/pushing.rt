@@ -6,8 +6,8 @@ ghost use Rattle.push_entries.specs.Listed.{listedReply, listedPushed};
 use crate::ends;
 use change_entries::Changed;
 use parameters::ParameterSet;
-use pushes::Record;
 use pushes::levels;
+use records::Record;
 
 // All records are tested and a place that stands twice is searched; then all leaves are written, the nodes above them marked, and the marked
 // nodes rewritten level by level; or nothing is written. The places that are compared are kept in an array.

@@ -17,7 +17,7 @@ use Rattle.trees.specs.SetTrees.{treeOf, dimensionsOf, leafCount}
 use Rattle.trees.proofs.Counts.{inner-few}
 use Rattle.trees.proofs.SetTrees as tree-of
 use Rattle.marks.specs.Marks.{Rank}
-use Rattle.pushes.specs.declared.tally.Tally.{Tally}
+use Rattle.records.specs.declared.tally.Tally.{Tally}
 use Rattle.pushes.specs.Passes.{mayRise, levelsBy, byRecords}
 
 -- ---- how many they are

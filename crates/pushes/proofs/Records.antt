@@ -1,17 +1,14 @@
--- What an accepted set and a tally without refusal give, and what one step keeps.
+-- What a tally without refusal gives, and what one step keeps.
 use mathlib.Core.Path.{_≡_, refl, sym, subst, _∙_}
 use mathlib.Core.Bool.{Bool, true, false, cond, _&&_}
 use mathlib.Core.List.{List}
 use Prim.Native.Nat.{ℕ, suc, _+_, _*_, _-_, _/_, _≤_, _<_}
-use native.Mathlib.Nat.{mul-le-mul-right}
 use native.Mathlib.Omega.{arith}
 use lib.Dec.{eqb, ltb}
 use lib.ListN.{length}
 use borrow.Author.Tests.{ne-eqb, eqb-true, ltb-true, le-ltb}
 use Rattle.modular.proofs.Words.{left-true, right-true}
-use Rattle.refusals.specs.Table.{firstRefusal}
 use Rattle.parameters.specs.declared.ParameterSet.{ParameterSet}
-use Rattle.parameters.specs.ParameterSet.{setRefusals}
 use Rattle.merkle.specs.Levels.{Shape}
 use Rattle.merkle.specs.Marks.{isMarked, rewriteMarked}
 use Rattle.merkle.specs.Numbering.{writeNode}
@@ -19,17 +16,12 @@ use Rattle.merkle.specs.Replacement.{Counted}
 use Rattle.repeats.specs.Maps.{window, mapWords, note}
 use Rattle.trees.specs.Shapes.{counted}
 use Rattle.trees.specs.SetTrees.{treeOf}
-use Rattle.trees.proofs.SetTrees as tree-of
 use Rattle.marks.specs.Marks.{mark}
-use Rattle.pushes.specs.declared.record.Record.{Record}
-use Rattle.pushes.specs.declared.tally.Tally.{Tally}
-use Rattle.pushes.specs.Records.{leafOf}
-use Rattle.pushes.specs.Passes.{Pass, pass, Going, oneMore, tested, testOf, isClear, mayWrite, mayRise, wrote, markLeaf, markOf, riseOf, found, noteOf, stepOf, roomOf}
-
--- a leaf is among a record's six words
-pub leaf-in-record : (s : ParameterSet) → firstRefusal (setRefusals s) ≡ 0 → s .«node_size» ≤ 6
-leaf-in-record s none =
-    omega (arith, mul-le-mul-right (s .«node_size») (tree-of.valid-numbers s none .several), tree-of.width-is s none, tree-of.width-fits s none)
+use Rattle.records.specs.declared.record.Record.{Record}
+use Rattle.records.specs.declared.tally.Tally.{Tally}
+use Rattle.records.specs.Records.{leafOf}
+use Rattle.records.specs.Tests.{Pass, pass, Going, oneMore, tested, testOf, isClear, found, noteOf, roomOf}
+use Rattle.pushes.specs.Passes.{mayWrite, mayRise, wrote, markLeaf, markOf, riseOf, stepOf}
 
 -- ---- a write that is allowed
 

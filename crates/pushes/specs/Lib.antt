@@ -1,4 +1,2 @@
--- Replacement records (Rules 5.3, 5.6), and the passes that a push makes over them.
-pub mod Records
-pub mod Listed
+-- The passes that a push makes over its records.
 pub mod Passes

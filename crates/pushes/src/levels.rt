@@ -9,12 +9,13 @@ ghost use Rattle.merkle.specs.Numbering.{inner};
 ghost use Rattle.trees.specs.Shapes.{counted};
 ghost use Rattle.trees.specs.SetTrees.{treeOf, leafCount, storeWords};
 ghost use Rattle.marks.specs.Marks.{mark};
-ghost use Rattle.pushes.specs.Passes.{pass, Sweeping, Risen, levelsBy, byRecords, nextOf, sweepOf};
+ghost use Rattle.records.specs.Tests.{pass};
+ghost use Rattle.pushes.specs.Passes.{Sweeping, Risen, levelsBy, byRecords, nextOf, sweepOf};
 use crate::steps;
-use crate::tally;
-use crate::tally::Tally;
 use marks::rewriting;
 use parameters::ParameterSet;
+use records::tally;
+use records::tally::Tally;
 use trees::sets;
 
 // How many levels, from the lowest above the leaves on, have more nodes than `most`.

@@ -50,16 +50,17 @@ use denote.Exit.{yes as kept}
 use Rattle.parameters.specs.declared.ParameterSet.{ParameterSet}
 use Rattle.parameters.proofs.ParameterSet as P
 use Rattle.parameters.proofs.ParameterSet.Laws as P′
-use Rattle.pushes.specs.declared.record.Record.{Record}
-use Rattle.pushes.specs.declared.tally.Tally.{Tally}
-use Rattle.pushes.specs.Passes.{pass, Going, stepOf, eachOf}
+use Rattle.records.specs.declared.record.Record.{Record}
+use Rattle.records.specs.declared.tally.Tally.{Tally}
+use Rattle.records.specs.Tests.{pass, Going}
+use Rattle.pushes.specs.Passes.{stepOf, eachOf}
 use Rattle.passes.proofs.Turns.{blank, Reached, reached-none, step-asks, reached-next, reached-all}
 use Rattle.passes.proofs.Lending.{LentMut, lends-mut, mut-back}
 use Rattle.passes.proofs.Values.{R, tv, pv, word, storeTy, recordsTy}
-use Rattle.pushes.proofs.record.Record as T
-use Rattle.pushes.proofs.record.Record.Laws as T′
-use Rattle.pushes.proofs.tally.Tally as Y
-use Rattle.pushes.proofs.tally.Tally.Laws as Y′
+use Rattle.records.proofs.record.Record as T
+use Rattle.records.proofs.record.Record.Laws as T′
+use Rattle.records.proofs.tally.Tally as Y
+use Rattle.records.proofs.tally.Tally.Laws as Y′
 use Rattle.pushes.proofs.steps.step as one
 use Rattle.pushes.proofs.steps.step.Symbol as one-def
 use Rattle.pushes.proofs.steps.step.Symbol.{name as #step}

@@ -2,7 +2,7 @@
 use Prim.Native.Nat.{_-_}
 use native.Mathlib.Omega.{arith}
 use Rattle.passes.proofs.Turns.{Reached, listed-none, listed-asks, listed-next, listed-all}
-use Rattle.pushes.specs.Listed.{listed}
+use Rattle.records.specs.Listed.{listed}
 use Rattle.passes.proofs.each_listed.Statement.{statement}
 use Rattle.passes.proofs.each_listed.Tie as tie
 

@@ -2,7 +2,7 @@
 use Prim.Native.Nat.{_-_}
 use native.Mathlib.Omega.{arith}
 use borrow.Author.Needs.{needs}
-use Rattle.pushes.specs.Listed.{recordAt, listed}
+use Rattle.records.specs.Listed.{recordAt, listed}
 use Rattle.pushes.specs.Passes.{stepOf}
 use Rattle.passes.proofs.Turns.{Reached, listed-none, listed-asks, listed-next, listed-all}
 use Rattle.passes.proofs.level_listed.Statement.{statement}

@@ -4,9 +4,9 @@ use Prim.Native.Nat.{_-_}
 use native.Mathlib.Omega.{arith}
 use borrow.Author.Needs.{needs}
 use borrow.Author.Tests.{not-true, not-false}
-use Rattle.pushes.specs.Listed.{listed}
-use Rattle.pushes.specs.Passes.{Pass, roomOf}
-use Rattle.pushes.proofs.Listed.{six-at}
+use Rattle.records.specs.Listed.{listed}
+use Rattle.records.specs.Tests.{Pass, roomOf}
+use Rattle.records.proofs.Listed.{six-at}
 use Rattle.pushes.proofs.Records.{rise-unrefused}
 use Rattle.passes.proofs.Turns.{Reached, listed-none, listed-all, marks-none, marks-next}
 use Rattle.passes.proofs.mark_listed.Statement.{statement}

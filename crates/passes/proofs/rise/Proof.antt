@@ -50,14 +50,15 @@ use denote.Exit.{yes as kept}
 use Rattle.parameters.specs.declared.ParameterSet.{ParameterSet}
 use Rattle.parameters.proofs.ParameterSet as P
 use Rattle.parameters.proofs.ParameterSet.Laws as P′
-use Rattle.pushes.specs.declared.record.Record.{Record}
-use Rattle.pushes.specs.declared.tally.Tally.{Tally}
-use Rattle.pushes.specs.Passes.{pass, Going, Rising, Risen, eachOf, byRecords, nextOf, levelsOf}
+use Rattle.records.specs.declared.record.Record.{Record}
+use Rattle.records.specs.declared.tally.Tally.{Tally}
+use Rattle.records.specs.Tests.{pass, Going}
+use Rattle.pushes.specs.Passes.{Rising, Risen, eachOf, byRecords, nextOf, levelsOf}
 use Rattle.passes.proofs.Rising.{Reached, levels-begin, level-asks, next-asks, level-next, levels-fit, levels-end}
 use Rattle.passes.proofs.Lending.{LentMut, lends-mut, mut-back}
 use Rattle.passes.proofs.Values.{R, tv, pv, word, storeTy, recordsTy}
-use Rattle.pushes.proofs.tally.Tally as Y
-use Rattle.pushes.proofs.tally.Tally.Laws as Y′
+use Rattle.records.proofs.tally.Tally as Y
+use Rattle.records.proofs.tally.Tally.Laws as Y′
 use Rattle.pushes.proofs.levels.by_records as end-of
 use Rattle.pushes.proofs.levels.by_records.Symbol as end-def
 use Rattle.pushes.proofs.levels.by_records.Symbol.{name as #end}

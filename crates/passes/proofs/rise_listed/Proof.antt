@@ -6,10 +6,11 @@ use native.Mathlib.Omega.{arith}
 use lib.ListN.{length}
 use borrow.Author.Needs.{needs}
 use Rattle.parameters.specs.declared.ParameterSet.{ParameterSet}
-use Rattle.pushes.specs.declared.tally.Tally.{Tally}
-use Rattle.pushes.specs.Listed.{listed}
-use Rattle.pushes.specs.Passes.{Going, Rising}
-use Rattle.pushes.proofs.Listed.{listed-count}
+use Rattle.records.specs.declared.tally.Tally.{Tally}
+use Rattle.records.specs.Listed.{listed}
+use Rattle.records.specs.Tests.{Going}
+use Rattle.pushes.specs.Passes.{Rising}
+use Rattle.records.proofs.Listed.{listed-count}
 use Rattle.passes.proofs.Rising.{Reached, levels-begin, level-asks, next-asks, level-next, levels-end}
 use Rattle.passes.proofs.rise_listed.Statement.{statement}
 use Rattle.passes.proofs.rise_listed.Tie as tie

@@ -53,18 +53,19 @@ use denote.Exit.{yes as kept}
 use Rattle.parameters.specs.declared.ParameterSet.{ParameterSet}
 use Rattle.parameters.proofs.ParameterSet as P
 use Rattle.parameters.proofs.ParameterSet.Laws as P′
-use Rattle.pushes.specs.declared.record.Record.{Record}
-use Rattle.pushes.specs.declared.tally.Tally.{Tally}
-use Rattle.pushes.specs.Passes.{pass, Going, eachOf, searchEnd, searchOf}
+use Rattle.records.specs.declared.record.Record.{Record}
+use Rattle.records.specs.declared.tally.Tally.{Tally}
+use Rattle.records.specs.Tests.{pass, Going, searchEnd}
+use Rattle.pushes.specs.Passes.{eachOf, searchOf}
 use Rattle.passes.proofs.Searching.{Reached, search-low, search-begins, search-asks, search-next, search-ends}
 use Rattle.passes.proofs.Rooms.{zerosVal, lentRoom, zeros-lie, lends-room, room-back, big-lit}
 use Rattle.passes.proofs.Values.{R, tv, pv, word, storeTy}
-use Rattle.pushes.proofs.tally.Tally as Y
-use Rattle.pushes.proofs.tally.Tally.Laws as Y′
-use Rattle.pushes.proofs.steps.search_end as end-of
-use Rattle.pushes.proofs.steps.search_end.Symbol as end-def
-use Rattle.pushes.proofs.steps.search_end.Symbol.{name as #end}
-use Rattle.pushes.proofs.steps.search_end.Met as end-met
+use Rattle.records.proofs.tally.Tally as Y
+use Rattle.records.proofs.tally.Tally.Laws as Y′
+use Rattle.records.proofs.testing.search_end as end-of
+use Rattle.records.proofs.testing.search_end.Symbol as end-def
+use Rattle.records.proofs.testing.search_end.Symbol.{name as #end}
+use Rattle.records.proofs.testing.search_end.Met as end-met
 use Rattle.passes.proofs.each as each
 use Rattle.passes.proofs.each.Symbol as each-def
 use Rattle.passes.proofs.each.Symbol.{name as #each}
@@ -364,5 +365,5 @@ search-spec 𝓤 H 𝓜 𝓖 𝓡 =
     entered 𝓤 H (tripleOf 𝓤 H (𝓖 .A) all.signature (all.spec 𝓤 H (𝓖 .A) (𝓜 .mem) (𝓡 .run)))
     (tables 𝓤 H 𝓜 𝓡 code.env .C) (tables 𝓤 H 𝓜 𝓡 code.env .Λ) #search code.function (code.unfolded 𝓤 H 𝓜 𝓡)
     (all-meets 𝓤 H (𝓖 .A) (givenOf 𝓤 H 𝓜 𝓖) (𝓜 .mem) (𝓡 .run) (tablesOf 𝓤 H 𝓜 (tables 𝓤 H 𝓜 𝓡 code.env))
-    (cited 𝓤 H (End 𝓤 H (𝓖 .A) (𝓜 .mem) (𝓡 .run)) 𝓜 𝓡 code.env #end end-def.routine code.calls-pushes·steps·search-end (end-met.met 𝓤 H 𝓜 𝓖 𝓡))
+    (cited 𝓤 H (End 𝓤 H (𝓖 .A) (𝓜 .mem) (𝓡 .run)) 𝓜 𝓡 code.env #end end-def.routine code.calls-records·testing·search-end (end-met.met 𝓤 H 𝓜 𝓖 𝓡))
     (cited 𝓤 H (Each 𝓤 H (𝓖 .A) (𝓜 .mem) (𝓡 .run)) 𝓜 𝓡 code.env #each each-def.routine code.calls-passes·each (each-met.met 𝓤 H 𝓜 𝓖 𝓡)))

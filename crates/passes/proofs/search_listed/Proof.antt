@@ -4,7 +4,7 @@ use Prim.Native.Nat.{ℕ, _-_}
 use native.Mathlib.Omega.{arith}
 use lib.ListN.{length-replicate}
 use borrow.Author.Needs.{needs}
-use Rattle.pushes.specs.Listed.{listed}
+use Rattle.records.specs.Listed.{listed}
 use Rattle.passes.proofs.Searching.{Reached, search-begins, search-asks, search-next, search-ends}
 use Rattle.passes.proofs.search_listed.Statement.{statement}
 use Rattle.passes.proofs.search_listed.Tie as tie

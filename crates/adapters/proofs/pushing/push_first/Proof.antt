@@ -51,10 +51,10 @@ use Rattle.change_entries.specs.declared.changed.Changed.{Changed}
 use Rattle.change_entries.specs.Replacement.{changedReply}
 use Rattle.change_entries.proofs.changed.Changed as S
 use Rattle.change_entries.proofs.changed.Changed.Laws as S′
-use Rattle.pushes.specs.declared.record.Record.{Record}
+use Rattle.records.specs.declared.record.Record.{Record}
 use Rattle.push_entries.specs.Pushes.{pushReply, pushed}
-use Rattle.pushes.proofs.record.Record as T
-use Rattle.pushes.proofs.record.Record.Laws as T′
+use Rattle.records.proofs.record.Record as T
+use Rattle.records.proofs.record.Record.Laws as T′
 use Rattle.push_entries.proofs.push as push
 use Rattle.push_entries.proofs.push.Symbol as push-def
 use Rattle.push_entries.proofs.push.Symbol.{name as #push}

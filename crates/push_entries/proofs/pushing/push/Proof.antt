@@ -54,17 +54,18 @@ use Rattle.change_entries.specs.declared.changed.Changed.{Changed}
 use Rattle.change_entries.specs.Replacement.{changedReply}
 use Rattle.change_entries.proofs.changed.Changed as S
 use Rattle.change_entries.proofs.changed.Changed.Laws as S′
-use Rattle.pushes.specs.declared.record.Record.{Record}
-use Rattle.pushes.specs.declared.tally.Tally.{Tally}
+use Rattle.records.specs.declared.record.Record.{Record}
+use Rattle.records.specs.declared.tally.Tally.{Tally}
 use Rattle.push_entries.specs.Pushes.{pushReply, pushed}
-use Rattle.pushes.specs.Passes.{Pass, pass, Going, Rising, Sweeping, eachOf, searchOf, levelsOf, sweepOf}
+use Rattle.records.specs.Tests.{Pass, pass, Going}
+use Rattle.pushes.specs.Passes.{Rising, Sweeping, eachOf, searchOf, levelsOf, sweepOf}
 use Rattle.push_entries.specs.Ends.{beginOf, finishOf}
 use Rattle.push_entries.proofs.Passes.{begins, afterTests, afterSearch, afterMarks, afterLevels, pushes, first-asks, second-asks, third-asks, fourth-asks, fifth-asks}
 use Rattle.passes.proofs.Lending.{LentMut, lends-mut, mut-back, LentShr, lends-shr, shr-back}
 use Rattle.passes.proofs.Rooms.{zerosVal, lentRoom, zeros-lie, lends-room, room-back}
 use Rattle.passes.proofs.Values.{R, tv, pv, word, storeTy, recordsTy}
-use Rattle.pushes.proofs.tally.Tally as Y
-use Rattle.pushes.proofs.tally.Tally.Laws as Y′
+use Rattle.records.proofs.tally.Tally as Y
+use Rattle.records.proofs.tally.Tally.Laws as Y′
 use Rattle.push_entries.proofs.ends.begin as begin
 use Rattle.push_entries.proofs.ends.begin.Symbol as begin-def
 use Rattle.push_entries.proofs.ends.begin.Symbol.{name as #begin}

@@ -3,7 +3,8 @@ use native.Mathlib.Omega.{arith}
 use Prim.Native.Nat.{ℕ, _+_, _*_, _/_}
 use borrow.Author.Needs.{needs}
 use Rattle.trees.specs.declared.Dimensions.{Dimensions}
-use Rattle.pushes.specs.Passes.{ranked, nextOf}
+use Rattle.records.specs.Tests.{ranked}
+use Rattle.pushes.specs.Passes.{nextOf}
 use Rattle.pushes.proofs.Ranks.{some-under, under-fits, before-fits}
 use Rattle.pushes.proofs.levels.next.Statement.{statement}
 use Rattle.pushes.proofs.levels.next.Tie as tie

@@ -1,7 +1,8 @@
 use mathlib.Core.Path.{refl, sym, _∙_}
 use borrow.Author.Needs.{needs}
 use borrow.Author.Tests.{not-true, not-false}
-use Rattle.pushes.specs.Passes.{markOf, roomOf}
+use Rattle.records.specs.Tests.{roomOf}
+use Rattle.pushes.specs.Passes.{markOf}
 use Rattle.pushes.proofs.Records.{rise-unrefused}
 use Rattle.pushes.proofs.steps.mark_item.Statement.{statement}
 use Rattle.pushes.proofs.steps.mark_item.Tie as tie

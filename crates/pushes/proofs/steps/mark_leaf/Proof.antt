@@ -6,7 +6,7 @@ use borrow.Author.Tests.{lt-ltb, le-ltb}
 use Rattle.trees.proofs.SetTrees as tree-of
 use Rattle.trees.specs.SetTrees.{dimensionsOf}
 use Rattle.pushes.specs.Passes.{markLeaf}
-use Rattle.pushes.proofs.Records.{leaf-in-record}
+use Rattle.records.proofs.Changes.{leaf-in-record}
 use Rattle.pushes.proofs.steps.mark_leaf.Statement.{statement}
 use Rattle.pushes.proofs.steps.mark_leaf.Tie as tie
 

@@ -2,7 +2,8 @@ use mathlib.Core.Path.{refl, sym, _∙_}
 use native.Mathlib.Omega.{arith}
 use borrow.Author.Needs.{needs}
 use borrow.Author.Tests.{not-true, not-false}
-use Rattle.pushes.specs.Passes.{counting, riseOf, roomOf}
+use Rattle.records.specs.Tests.{roomOf}
+use Rattle.pushes.specs.Passes.{counting, riseOf}
 use Rattle.pushes.proofs.Records.{may-unrefused, may-inside}
 use Rattle.pushes.proofs.steps.rise_item.Statement.{statement}
 use Rattle.pushes.proofs.steps.rise_item.Tie as tie
