@@ -83,8 +83,8 @@ extern "C" {
 #define OPENING_TREE_FILE_TOO_LONG 16      /* the contents of a file are over 4294967295 bytes */
 #define OPENING_TREE_REPEATED_PLACE 17     /* two records of a push have the same place */
 #define OPENING_TREE_NO_INVERSE 13         /* the inverse of 0 */
-#define OPENING_TREE_NOT_ACCEPTED 14       /* extraction: an opening is not accepted */
 #define OPENING_TREE_EQUAL_LEAVES 15       /* extraction: the leaves are equal */
+#define OPENING_TREE_NOT_ACCEPTED 14       /* extraction: an opening is not accepted */
 #define OPENING_TREE_REJECTED 255          /* verification: the opening does not end in the root */
 
 /* How many numbers a set has. */
@@ -223,8 +223,8 @@ static inline uint8_t opening_tree_push(const uint64_t set[OPENING_TREE_SET_SIZE
 /* Of two leaves with their openings, both accepted at the same place under the same root: the lowest level at which their rows differ and
    compress alike. A leaf's row at a level is what opening_tree_verify compresses there. Writes the level to *level, the first leaf's row to
    first_row and the second's to second_row. Refusals, in this order: 1 to 5, 7 to 9, 18, 10 (the root or a leaf is not of l numbers;
-   siblings; a row is not of t numbers), 11 (the place is not below k^h), 12 (root, leaves, siblings), 14 (an opening is not accepted), 15
-   (the leaves are equal). */
+   siblings; a row is not of t numbers), 11 (the place is not below k^h), 12 (root, leaves, siblings), 15 (the leaves are equal, whatever
+   their openings are), 14 (an opening is not accepted). */
 uint8_t opening_tree_extract(const uint64_t set[OPENING_TREE_SET_SIZE], const uint64_t *root, size_t root_count, uint64_t place,
                              const uint64_t *first, size_t first_count, const uint64_t *first_siblings,
                              size_t first_siblings_count, const uint64_t *second, size_t second_count,

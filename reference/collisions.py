@@ -31,7 +31,7 @@ in d: the first node of d less the one at the path's place in the row above is
 known. The path's places above level 0 are all different and none is 0.
 """
 
-from collections.abc import Callable, Iterator
+from collections.abc import Callable, Collection, Iterator
 from dataclasses import dataclass
 
 from field import P, SEVENTH_ROOT_EXPONENT
@@ -164,11 +164,11 @@ class Search:
         raised = subtract([pow(word, 7, P) for word in g], times(self.unmatrix, apart))
         return (g, [pow(word, SEVENTH_ROOT_EXPONENT, P) for word in raised])
 
-    def apart(self, nodes: tuple[int, ...]) -> Pair:
-        """A pair whose rows differ in these nodes alone. Where c is 0, the first row ends in 0."""
+    def apart(self, places: Collection[int]) -> Pair:
+        """A pair whose rows differ in the words at these places alone. Where c is 0, the first row
+        ends in 0."""
         row = self.words(self.width - 1) + [0]
-        drawn = enumerate(self.words(self.width))
-        apart = [word if i // self.node_size in nodes else 0 for i, word in drawn]
+        apart = [word if i in places else 0 for i, word in enumerate(self.words(self.width))]
         return (external_layer(row), external_layer(subtract(row, apart)))
 
     def row_difference(self, pair: Pair) -> Words:
@@ -209,9 +209,15 @@ class Search:
 # Pairs for each level. The node of level j is at place j + 1 of the row above it.
 
 
+def words_apart(search: Search, places: Collection[int]) -> list[Pair]:
+    """One pair, whose rows differ in the words at these places and compress alike."""
+    return [search.solved_pair(lambda: search.apart(places), [0] * search.node_size)]
+
+
 def nodes_apart(search: Search, nodes: tuple[int, ...]) -> list[Pair]:
-    """One pair, whose rows differ in these nodes and compress alike."""
-    return [search.solved_pair(lambda: search.apart(nodes), [0] * search.node_size)]
+    """One pair, whose rows differ in every word of these nodes and compress alike."""
+    l = search.node_size
+    return words_apart(search, [node * l + i for node in nodes for i in range(l)])
 
 
 def meeting_at(search: Search, level: int) -> list[Pair]:

@@ -340,12 +340,12 @@ def extract(
     leaves = first_leaf + second_leaf
     if not all_words(root + leaves + first_siblings + second_siblings):
         return ("refused", 12)
+    if first_leaf == second_leaf:
+        return ("refused", 15)
     first_rows, first_end = verdict_rows(s, place, first_leaf, first_siblings)
     second_rows, second_end = verdict_rows(s, place, second_leaf, second_siblings)
     if first_end != root or second_end != root:
         return ("refused", 14)
-    if first_leaf == second_leaf:
-        return ("refused", 15)
     level = colliding_level(s, first_rows, second_rows)
     first_row[:] = first_rows[level]
     second_row[:] = second_rows[level]

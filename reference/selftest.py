@@ -217,6 +217,16 @@ def worked_place() -> Iterator[Check]:
     yield "extraction", got, gone
 
 
+def worked_extraction() -> Iterator[Check]:
+    """Under T: the leaf beside itself, with a good opening and with a bad one, and another leaf."""
+    offered = [1, 0], [0, 0]
+    for leaf, siblings, number in (([1, 0], [0, 0], 15), ([1, 0], [0, 1], 15), ([2, 0], [0, 0], 14)):
+        for first, second in ((offered, (leaf, siblings)), ((leaf, siblings), offered)):
+            rows = [9] * 4, [9] * 4
+            got = merkle.extract(set_t(), [6, 4], 0, *first, *second, *rows)
+            yield f"{first} and {second}", (got, rows), (("refused", number), ([9] * 4, [9] * 4))
+
+
 def worked_word() -> Iterator[Check]:
     """p is refused with 12 wherever a word is wanted, and p - 1 is not."""
     s = set_t()
@@ -583,9 +593,15 @@ def replacements() -> Iterator[Check]:
 
 
 def extractions() -> Iterator[Check]:
-    """Each extraction is refused with its number and keeps both buffers, or gives its level."""
+    """Each extraction is refused with its number and keeps both buffers, or gives its level; and its
+    openings are accepted, or not, as the case says."""
     for _, one in tree_cases.extractions_cases():
         answer, first, second = tree_vectors.extracted(one)
+        if one.accepted is not None:
+            root, *offers = one.handed()
+            for said, offer in zip(one.accepted, (offers[:2], offers[2:])):
+                verdict = merkle.verify(one.case.handed(), root, one.place, *offer)
+                yield f"verdict of {one}", verdict, ("accepted" if said else "rejected", None)
         if one.refusal:
             yield f"extract {one}", answer, ("refused", one.refusal)
             yield f"{one} keeps", (first, second), tuple([7] * length for length in one.rows)
@@ -1039,6 +1055,7 @@ GROUPS = [
     ("worked: program", worked_program),
     ("worked: validation", worked_validation),
     ("worked: place", worked_place),
+    ("worked: extraction", worked_extraction),
     ("worked: word", worked_word),
     ("published instances", published_instances),
     ("field rules", field_rules),

@@ -44,6 +44,7 @@ from cases import (
     SIZES,
     Case,
     Listed,
+    altered,
     case_t,
     lines,
     seeded,
@@ -54,7 +55,7 @@ from cases import (
 from collisions import Collision, Search
 from field import P
 from generator import drawn_numbers
-from merkle import node_start
+from merkle import node_start, verdict_rows
 
 TREE_PLACES = 1024
 OFFER_PLACES = 64
@@ -396,7 +397,8 @@ def replacements_cases() -> Iterator[tuple[int, Replacements]]:
 @dataclass
 class Extraction:
     """A set, a root, a place, two leaves with their siblings, and the lengths of two row buffers;
-    the number that is to refuse it, or the level that is to be given."""
+    the number that is to refuse it, or the level that is to be given; and where the case is about
+    it, whether each opening is to be accepted."""
 
     case: Case
     lists: dict[str, Listed]
@@ -404,6 +406,7 @@ class Extraction:
     rows: list[int]
     refusal: int = 0
     level: int = 0
+    accepted: tuple[bool, bool] | None = None
 
     def line(self, what: int) -> list[int]:
         """The line that asks for this."""
@@ -431,7 +434,8 @@ def extraction(made: Collision, swapped: bool = False) -> Extraction:
     case.constants = whole(s.constants[: case.constants.count])
     one, two = (made.second, made.first) if swapped else (made.first, made.second)
     lists = dict(zip(OFFERED, map(whole, (made.root, *one, *two))))
-    return Extraction(case, lists, made.place, [s.width, s.width], level=made.level)
+    rows = [s.width, s.width]
+    return Extraction(case, lists, made.place, rows, level=made.level, accepted=(True, True))
 
 
 # The seeds are such that few pairs are drawn in vain.
@@ -453,10 +457,10 @@ def meeting_twice(width: int, node_size: int, digit: int) -> Collision:
 
 
 @cache
-def nodes_apart(width: int, node_size: int, height: int, nodes: tuple[int, ...]) -> Collision:
-    """Openings whose first rows differ in some nodes; the leaf is the first node."""
+def words_apart(width: int, node_size: int, height: int, places: tuple[int, ...]) -> Collision:
+    """Openings whose first rows differ in some words; the leaf is the first node."""
     search = Search(width, node_size, 424)
-    return collisions.collision(search, collisions.nodes_apart(search, nodes), height, 0, 0)
+    return collisions.collision(search, collisions.words_apart(search, places), height, 0, 0)
 
 
 def extractions_at_one_level() -> Iterator[Extraction]:
@@ -479,9 +483,9 @@ def extractions_at_two_levels() -> Iterator[Extraction]:
 
 
 def extractions_of_a_leaf() -> Iterator[Extraction]:
-    """The leaves differ, and no sibling does. The places that aren't used hold p."""
-    for t, l in ((4, 1), (8, 2), (12, 6)):
-        one = extraction(nodes_apart(t, l, 1, (0,)))
+    """The leaves differ in one word, and no sibling does. The places that aren't used hold p."""
+    for t, l, word in ((4, 1, 0), (8, 2, 0), (12, 3, 1), (12, 6, 5)):
+        one = extraction(words_apart(t, l, 1, (word,)))
         one.case.beyond = P
         yield one
 
@@ -557,7 +561,7 @@ def refused(base: Extraction, number: int, *faults: ExtractionFault) -> Extracti
     one = deepcopy(base)
     for fault in faults:
         fault(one)
-    one.refusal = number
+    one.refusal, one.accepted = number, None
     return one
 
 
@@ -570,9 +574,10 @@ def drawn_extraction(width: int, node_size: int, height: int) -> Extraction:
 
 
 def extractions_of_lists() -> Iterator[Extraction]:
-    """10 to 12, each list in turn, and two refusals at once."""
+    """10 to 12, each list in turn, and several refusals at once."""
     base = drawn_extraction(8, 4, 2)
     yield base
+    yield refused(base, 15, twin)
     for by in (-1, 1):
         for name in OFFERED:
             yield refused(base, 10, resized(name, by))
@@ -587,6 +592,10 @@ def extractions_of_lists() -> Iterator[Extraction]:
     yield refused(base, 10, resized_row(1, 1), placed(4), bad)
     yield refused(base, 10, bad, resized("second_siblings", -1))
     yield refused(base, 11, placed(4), bad)
+    # Equal leaves, whose openings are not accepted, after what is tested before them.
+    yield refused(base, 10, twin, resized_row(0, 1))
+    yield refused(base, 11, twin, placed(4))
+    yield refused(base, 12, twin, spoilt("first_siblings", 0))
     yield refused(base, 12, spoilt("first", 0), twin)
     for number, ways in set_faults(base.case).items():
         one = refused(base, number, *([bad, resized("root", 1)] if number % 2 == 1 else [twin]))
@@ -603,25 +612,65 @@ def refused_openings() -> Iterator[Extraction]:
     for name in OFFERED:
         yield refused(base, 14, damaged(name))
     yield refused(base, 14, damaged("first"), damaged("second_siblings"))
-    yield refused(base, 14, damaged("first"), twin)
+    yield refused(base, 15, damaged("first"), twin)
     yield refused(base, 15, twin)
     yield refused(extraction(meeting_at(4, 1, 3, 2, 0)), 14, damaged("second_siblings"))
     # p is not another zero.
-    zero = extraction(nodes_apart(4, 1, 1, (0,)))
+    zero = extraction(words_apart(4, 1, 1, (0,)))
     yield refused(zero, 12, spoilt("first_siblings", -1))
     yield refused(zero, 12, spoilt("second_siblings", -1))
     # The leaves are equal, and their rows collide.
-    yield refused(extraction(nodes_apart(4, 2, 1, (1,))), 15)
+    yield refused(extraction(words_apart(4, 2, 1, (2, 3))), 15)
 
 
 def extractions_of_one_leaf() -> Iterator[Extraction]:
-    """Height 0: a leaf is accepted if it is the root, so two leaves that differ never are."""
+    """Height 0: a leaf is accepted if it is the root, so two leaves that differ never are. The root
+    is drawn from the seed 1."""
     for t, l in ((4, 2), (12, 6)):
         case = seeded(t, l, 0, 2, 0, 5)
-        for seeds, number in (((1, 1, 1), 15), ((1, 1, 2), 14), ((1, 2, 1), 14), ((1, 2, 2), 14)):
-            root, first, second = (Listed(l, seed) for seed in seeds)
+        for a, b in ((1, 1), (2, 2), (1, 2), (2, 1), (2, 3)):
+            root, first, second = (Listed(l, seed) for seed in (1, a, b))
             lists = dict(zip(OFFERED, (root, first, Listed(0, 0), second, Listed(0, 0))))
-            yield Extraction(case, lists, 0, [t, t], number)
+            number = 15 if a == b else 14
+            yield Extraction(case, lists, 0, [t, t], number, accepted=(a == 1, b == 1))
+
+
+# For each width and node size a height for which the siblings fill most of their buffer, or few.
+OPENED_HEIGHTS = (3, 32, 2, 4, 16, 1, 6, 7, 8, 10)
+
+
+def opened_case(i: int) -> tuple[Case, int]:
+    """A set of the i-th width and node size, one in three with a zero in D, and a place."""
+    (t, l), h = SIZES[i], OPENED_HEIGHTS[i]
+    case = seeded(t, l, h, 2 * (i % 6 + 1), 7 * i, 700 + 3 * i)
+    return (altered(case, zeros(i % t)) if i % 3 == 2 else case, 5 ** (3 * i) % (t // l) ** h)
+
+
+def openings_of_two_leaves() -> Iterator[Extraction]:
+    """Each opening good or bad, with equal leaves, for which it doesn't matter, and with leaves that
+    differ in one word; both good with different leaves are the collisions above."""
+    for i, (t, l) in enumerate(SIZES):
+        case, place = opened_case(i)
+        good, bad = (Listed(case.height * (t - l), seed) for seed in (2, 3))
+        leaf, other = Listed(l, 1), Listed(l, 1)
+        word = leaf.numbers(OFFER_PLACES)[i % l]
+        other.write(i % l, (word + 1) % P)
+        words = (one.numbers(OFFER_PLACES) for one in (leaf, good))
+        _, end = verdict_rows(case.handed(), place, *words)
+        root, another = whole(end), Listed(l, 4)
+        for top, first, second, accepted in (
+            (root, (leaf, good), (leaf, good), (True, True)),
+            (root, (leaf, good), (leaf, bad), (True, False)),
+            (root, (leaf, bad), (leaf, good), (False, True)),
+            (root, (leaf, bad), (leaf, bad), (False, False)),
+            (another, (leaf, good), (leaf, good), (False, False)),
+            (root, (leaf, good), (other, good), (True, False)),
+            (root, (other, good), (leaf, good), (False, True)),
+            (another, (leaf, good), (other, good), (False, False)),
+        ):
+            lists = dict(zip(OFFERED, (top, *first, *second)))
+            number = 15 if first[0] is second[0] else 14
+            yield Extraction(case, lists, place, [t, t], number, accepted=accepted)
 
 
 def extractions_cases() -> Iterator[tuple[int, Extraction]]:
@@ -633,6 +682,7 @@ def extractions_cases() -> Iterator[tuple[int, Extraction]]:
         extractions_of_lists,
         refused_openings,
         extractions_of_one_leaf,
+        openings_of_two_leaves,
     ):
         for one in part():
             yield (EXTRACTION, one)

@@ -357,7 +357,7 @@ pub fn push_numbers(set: &[u64; SET_SIZE], store: &mut [u64], numbers: &[u64]) -
 
 /// Of two leaves with their openings, both accepted at the place under the root: answers the lowest level at which their rows differ
 /// and compress alike, and writes the first leaf's row to `first_row` and the second's to `second_row`, t numbers each. Refusals: the
-/// set's, 10 to 12, 14 and 15.
+/// set's, 10 to 12, 15 and 14, in this order: a leaf beside itself is 15, whatever the openings are.
 #[allow(clippy::too_many_arguments)] // The C function's own.
 pub fn extract(
     set: &[u64; SET_SIZE],

@@ -4,8 +4,8 @@ use std::error::Error;
 use std::fmt;
 
 /// Why a call was refused. Of the refusals that apply, the first one tested is given. They are tested in the order of their numbers,
-/// except that 18 comes after 9 and before 10, and 16 and 17 come after 12 and before 13. An exchange tests the set that it is handed by
-/// all of them before it tests the set that it makes.
+/// except that 18 comes after 9 and before 10, 16 and 17 come after 12 and before 13, and 15 comes before 14. An exchange tests the set
+/// that it is handed by all of them before it tests the set that it makes.
 ///
 /// ```
 /// use opening_tree::{field, Refusal};
@@ -44,9 +44,9 @@ pub enum Refusal {
     NotAWord = 12,
     /// The inverse of 0.
     NoInverse = 13,
-    /// Extraction: an opening is not accepted.
+    /// Extraction: the leaves differ, and an opening is not accepted.
     NotAccepted = 14,
-    /// Extraction: the leaves are equal.
+    /// Extraction: the leaves are equal, whether their openings are accepted or not.
     EqualLeaves = 15,
     /// The contents of a file are more than 4294967295 bytes.
     FileTooLong = 16,
@@ -75,8 +75,8 @@ impl Refusal {
         Refusal::FileTooLong,
         Refusal::RepeatedPlace,
         Refusal::NoInverse,
-        Refusal::NotAccepted,
         Refusal::EqualLeaves,
+        Refusal::NotAccepted,
     ];
 
     /// Its number, 1 to 18.
@@ -123,7 +123,7 @@ mod tests {
 
     #[test]
     fn every_row_has_its_number() {
-        let numbers = [1, 2, 3, 4, 5, 6, 7, 8, 9, 18, 10, 11, 12, 16, 17, 13, 14, 15];
+        let numbers = [1, 2, 3, 4, 5, 6, 7, 8, 9, 18, 10, 11, 12, 16, 17, 13, 15, 14];
         assert_eq!(Refusal::ALL.map(Refusal::number), numbers);
         for (refusal, number) in Refusal::ALL.into_iter().zip(numbers) {
             assert_eq!(Refusal::from_number(number), Some(refusal));

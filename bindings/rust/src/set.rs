@@ -241,7 +241,7 @@ impl ParameterSet {
     }
 
     /// Of two leaves that are both accepted at a place under one root, the lowest level at which their rows differ and compress
-    /// alike, and these rows. Refusals 10 to 12, 14 and 15.
+    /// alike, and these rows. Refusals 10 to 12, 15 and 14, in this order: a leaf beside itself is 15, whatever the openings are.
     pub fn extract(&self, root: &Root, place: u64, first: Offer, second: Offer) -> Result<Collision, Refusal> {
         let mut first_row = vec![0; self.width()];
         let mut second_row = vec![0; self.width()];

@@ -30,21 +30,21 @@ level-or d (some c) = c .level
 module _ (s : ParameterSet) (two : Pair) (first second : List ℕ) (z : firstRefusal (extractRefusals s two first second) ≡ 0) where
   open Pair two using (root as top, place as q, firstLeaf as a, firstSiblings as xs, secondLeaf as b, secondSiblings as ys)
 
-  pairs : (firstRefusal (pairRefusals s two first second) ≡ 0) × (firstRefusal (refusal 14 (not (bothAccepted s two)) ∷ refusal 15 (same a b) ∷ []) ≡ 0)
+  pairs : (firstRefusal (pairRefusals s two first second) ≡ 0) × (firstRefusal (refusal 15 (same a b) ∷ refusal 14 (not (bothAccepted s two)) ∷ []) ≡ 0)
   unfolding extractRefusals
-  pairs = first-none (pairRefusals s two first second) (refusal 14 (not (bothAccepted s two)) ∷ refusal 15 (same a b) ∷ []) (pair-numbered s two first second) z
+  pairs = first-none (pairRefusals s two first second) _ (pair-numbered s two first second) z
 
   pub paired : Paired s two first second
   paired = pair-passed s two first second (pairs .0)
 
-  accepted : (not (bothAccepted s two) ≡ false) × (firstRefusal (refusal 15 (same a b) ∷ []) ≡ 0)
-  accepted = refusal-none 13 (not (bothAccepted s two)) (refusal 15 (same a b) ∷ []) (pairs .1)
-
-  pub both : bothAccepted s two ≡ true
-  both = not-false (bothAccepted s two) (accepted .0)
+  leaves : (same a b ≡ false) × (firstRefusal (refusal 14 (not (bothAccepted s two)) ∷ []) ≡ 0)
+  leaves = refusal-none 14 (same a b) _ (pairs .1)
 
   pub differ : a ≢ b
-  differ = same-false a b (refusal-none 14 (same a b) [] (accepted .1) .0)
+  differ = same-false a b (leaves .0)
+
+  pub both : bothAccepted s two ≡ true
+  both = not-false (bothAccepted s two) (refusal-none 13 (not (bothAccepted s two)) [] (leaves .1) .0)
 
   pub found : Extracts (treeOf s) (s .height) q a xs b ys
   unfolding bothAccepted

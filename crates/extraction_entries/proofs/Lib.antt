@@ -1,5 +1,6 @@
--- What holds where nothing is refused, what a verdict says there, and the collision that is found.
+-- What holds where nothing is refused, what a verdict says there, the collision that is found, and the replies that 15 before 14 changed.
 pub mod AcceptedPairs
 mod Verdicts
 pub mod Extracted
 pub mod Statements
+pub mod EqualLeaves

@@ -3,7 +3,6 @@ use mathlib.Core.Path.{_≡_, sym, ap, subst, _∙_}
 use mathlib.Core.List.{List, [], _∷_}
 use mathlib.Core.Option.{Option}
 use Prim.Native.Nat.{ℕ, _<_}
-use Rattle.modular.proofs.Words.{left-true, right-true}
 use Rattle.refusals.specs.Table.{firstRefusal, done}
 use Rattle.refusals.proofs.Table.{written-after}
 use Rattle.parameters.specs.declared.ParameterSet.{ParameterSet}
@@ -16,11 +15,10 @@ use Rattle.trees.proofs.Shapes.{keeps-words}
 use Rattle.state_entries.specs.Permutation.{compressUnder}
 use Rattle.trees.specs.SetTrees.{treeOf}
 use Rattle.trees.proofs.SetTrees.{valid-numbers, width-is, shape-regular}
-use Rattle.extraction_entries.specs.Extraction.{Pair, bothAccepted, extractRefusals, collision, levelOf, firstOf, secondOf, extractedFirst, extractedSecond}
+use Rattle.extraction_entries.specs.Extraction.{Pair, extractRefusals, collision, levelOf, firstOf, secondOf, extractedFirst, extractedSecond}
 use Rattle.extraction_entries.specs.Statements.{IsRow, Collides, Written, Extracting}
 use Rattle.extraction_entries.proofs.AcceptedPairs.{Opening}
-use Rattle.extraction_entries.proofs.Verdicts.{other-leaves}
-use Rattle.extraction_entries.proofs.Verdicts as verdicts
+use Rattle.extraction_entries.proofs.Verdicts.{both-accepted}
 use Rattle.extraction_entries.proofs.Extracted.{paired, found, collided, replies}
 
 -- what a verdict compresses at a level is a row
@@ -70,7 +68,6 @@ module _ (s : ParameterSet) (two : Pair) (first second : List ℕ) (z : firstRef
       }
 
 pub extracting : Extracting
-unfolding bothAccepted
 extracting s two first second none both differ =
-    let z = sym (other-leaves s two first second none (left-true (verdicts.one s two) (verdicts.other s two) both) (right-true (verdicts.one s two) (verdicts.other s two) both) (ne-same (two .firstLeaf) (two .secondLeaf) differ)) in
+    let z = both-accepted s two first second none (ne-same (two .firstLeaf) (two .secondLeaf) differ) both in
     (collides s two first second z, written s two first second z)

@@ -7,9 +7,8 @@ use Prim.Native.Nat.{ℕ}
 use native.Mathlib.Omega.{arith}
 use Rattle.refusals.specs.Table.{refusal, firstRefusal, Reply, refused, done}
 use Rattle.refusals.proofs.Table.{first-back, reply-done, refusal-applies, refusal-passes}
-use Rattle.refusals.proofs.LengthsAndWords.{and-false-left, and-false-right}
+use Rattle.refusals.proofs.LengthsAndWords.{and-false-left, and-true-left}
 use Rattle.parameters.specs.declared.ParameterSet.{ParameterSet}
-use Rattle.modular.proofs.Words.{and-true}
 use Rattle.merkle.specs.Lists.{same}
 use Rattle.merkle.specs.Openings.{accepts}
 use Rattle.tree_entries.specs.declared.verdict.Verdict.{Verdict}
@@ -83,33 +82,30 @@ module _ (s : ParameterSet) (two : Pair) where
 
 -- the refusals behind 12
 module _ (s : ParameterSet) (two : Pair) (first second : List ℕ) (none : firstRefusal (pairRefusals s two first second) ≡ 0) where
-  behind : firstRefusal (extractRefusals s two first second) ≡ firstRefusal (refusal 14 (not (bothAccepted s two)) ∷ refusal 15 (same (two .firstLeaf) (two .secondLeaf)) ∷ [])
+  behind : firstRefusal (extractRefusals s two first second) ≡ firstRefusal (refusal 15 (same (two .firstLeaf) (two .secondLeaf)) ∷ refusal 14 (not (bothAccepted s two)) ∷ [])
   unfolding extractRefusals
   behind = first-back (pairRefusals s two first second) _ (pair-numbered s two first second) none
 
-  fourteen : bothAccepted s two ≡ false → firstRefusal (extractRefusals s two first second) ≡ 14
-  fourteen e = behind ∙ refusal-applies 14 (not (bothAccepted s two)) _ (ap not e)
+  pub equal-leaves : same (two .firstLeaf) (two .secondLeaf) ≡ true → _≡_ {A = ℕ} 15 (firstRefusal (extractRefusals s two first second))
+  equal-leaves e = sym (behind ∙ refusal-applies 15 (same (two .firstLeaf) (two .secondLeaf)) _ e)
 
-  pub first-rejected : {r : ℕ} → r ≡ firstRefusal (refusal 14 (not (one s two)) ∷ []) → r ≢ 0 → r ≡ firstRefusal (extractRefusals s two first second)
-  unfolding bothAccepted
-  first-rejected e n =
-      let f = opening-rejected (one s two) e n in
-      f .1 ∙ sym (fourteen (and-false-left (one s two) (other s two) (f .0)))
+  -- the verdicts on other leaves
+  module _ (apart : same (two .firstLeaf) (two .secondLeaf) ≡ false) where
+    by-verdicts : firstRefusal (extractRefusals s two first second) ≡ firstRefusal (refusal 14 (not (bothAccepted s two)) ∷ [])
+    by-verdicts = behind ∙ refusal-passes 15 (same (two .firstLeaf) (two .secondLeaf)) _ apart
 
-  pub second-rejected : one s two ≡ true → {r : ℕ} → r ≡ firstRefusal (refusal 14 (not (other s two)) ∷ []) → r ≢ 0 → r ≡ firstRefusal (extractRefusals s two first second)
-  unfolding bothAccepted
-  second-rejected o e n =
-      let f = opening-rejected (other s two) e n in
-      f .1 ∙ sym (fourteen (and-false-right (one s two) (other s two) o (f .0)))
-
-  module _ (e : one s two ≡ true) (f : other s two ≡ true) where
-    accepted : firstRefusal (extractRefusals s two first second) ≡ firstRefusal (refusal 15 (same (two .firstLeaf) (two .secondLeaf)) ∷ [])
+    -- the first is not accepted
+    pub first-rejected : {r : ℕ} → r ≡ firstRefusal (refusal 14 (not (one s two)) ∷ []) → r ≢ 0 → r ≡ firstRefusal (extractRefusals s two first second)
     unfolding bothAccepted
-    accepted = behind ∙ refusal-passes 14 (not (bothAccepted s two)) _ (ap not (and-true (one s two) (other s two) e f))
+    first-rejected e n =
+        let f = opening-rejected (one s two) e n in
+        f .1 ∙ sym (by-verdicts ∙ refusal-applies 14 (not (bothAccepted s two)) [] (ap not (and-false-left (one s two) (other s two) (f .0))))
 
-    pub equal-leaves : same (two .firstLeaf) (two .secondLeaf) ≡ true → _≡_ {A = ℕ} 15 (firstRefusal (extractRefusals s two first second))
-    equal-leaves g = sym (accepted ∙ refusal-applies 15 (same (two .firstLeaf) (two .secondLeaf)) [] g)
+    -- the first is accepted, and the second decides
+    pub second-decides : one s two ≡ true → {r : ℕ} → r ≡ firstRefusal (refusal 14 (not (other s two)) ∷ []) → r ≡ firstRefusal (extractRefusals s two first second)
+    unfolding bothAccepted
+    second-decides o e = e ∙ sym (by-verdicts ∙ ap (λ (b : Bool). firstRefusal (refusal 14 (not b) ∷ [])) (and-true-left (one s two) (other s two) o))
 
-    pub other-leaves : same (two .firstLeaf) (two .secondLeaf) ≡ false → _≡_ {A = ℕ} 0 (firstRefusal (extractRefusals s two first second))
+    pub both-accepted : bothAccepted s two ≡ true → firstRefusal (extractRefusals s two first second) ≡ 0
     unfolding firstRefusal
-    other-leaves g = sym (accepted ∙ refusal-passes 15 (same (two .firstLeaf) (two .secondLeaf)) [] g)
+    both-accepted e = by-verdicts ∙ refusal-passes 14 (not (bothAccepted s two)) [] (ap not e)

@@ -56,9 +56,9 @@ module _ (s : ParameterSet) (two : Pair) where
   unfoldable pub bothAccepted : Bool
   bothAccepted = accepts (treeOf s) (s .height) top q a xs && accepts (treeOf s) (s .height) top q b ys
 
-  -- all refusals; 15 is of equal leaves (Rules 8.1)
+  -- all refusals; 15 is of equal leaves, and comes before 14 (Rules 5.7, 8.1)
   unfoldable pub extractRefusals : List ℕ → List ℕ → List Refusal
-  extractRefusals first second = pairRefusals first second ++ (refusal 14 (not bothAccepted) ∷ refusal 15 (same a b) ∷ [])
+  extractRefusals first second = pairRefusals first second ++ (refusal 15 (same a b) ∷ refusal 14 (not bothAccepted) ∷ [])
 
   -- the lowest level at which the rows of the two leaves collide, with both rows (Rules 5.7)
   unfoldable pub collision : Option Collision

@@ -143,7 +143,7 @@ fn refusal_of_opening(
     }
 }
 
-// The number of the first refusal of a pair of openings, or 0.
+// The number of the first refusal of a pair of openings, or 0. Of equal leaves no verdict is asked for.
 fn refusal_of_extract(
     set: ParameterSet,
     root: &[u64],
@@ -157,7 +157,7 @@ fn refusal_of_extract(
 ) -> u8
     ensures { λ r. ⌜ r ≡ firstRefusal (extractRefusals set (pair (now (root .entry)) place (now (first .entry)) (now («first_siblings» .entry)) (now (second .entry)) (now («second_siblings» .entry))) (now («first_row» .entry)) (now («second_row» .entry))) ⌝ }
 {
-    let number = refusal_of_pair(
+    let earlier = refusal_of_pair(
         set,
         root,
         place,
@@ -168,21 +168,17 @@ fn refusal_of_extract(
         first_row,
         second_row,
     );
-    if number != 0 {
-        return number;
+    if earlier != 0 {
+        return earlier;
+    }
+    if paths::comparison::same_words(first, second) {
+        return 15;
     }
     let number = refusal_of_opening(set, root, place, first, first_siblings);
     if number != 0 {
         return number;
     }
-    let number = refusal_of_opening(set, root, place, second, second_siblings);
-    if number != 0 {
-        return number;
-    }
-    if paths::comparison::same_words(first, second) {
-        return 15;
-    }
-    0
+    refusal_of_opening(set, root, place, second, second_siblings)
 }
 
 // The lowest level at which the rows of the two leaves differ and compress alike. The first leaf's row there is written to the first

@@ -204,10 +204,10 @@ pub fn extract(
     lengths(&[(first_row, t), (second_row, t)])?;
     below(place, set.places())?;
     words(&[root, first, first_siblings, second, second_siblings].concat())?;
+    refuse(15, first == second)?;
     let (first_rows, first_end) = tree::climb(set, place, first, first_siblings);
     let (second_rows, second_end) = tree::climb(set, place, second, second_siblings);
     refuse(14, first_end != root || second_end != root)?;
-    refuse(15, first == second)?;
     let collide = |&level: &usize| {
         let (a, b) = (&first_rows[level], &second_rows[level]);
         a != b && permutation::compress(set, a) == permutation::compress(set, b)
