@@ -699,6 +699,22 @@ static void collisions(void) {
     expect("nothing written", a[0] == 9 && b[3] == 9 && level == 99);
 }
 
+/* Under WEAK: equal leaves are 15 whether an opening is good or bad, and different ones are 14 unless both are good. */
+static void good_and_bad_openings(void) {
+    for (int which = 0; which < 16; which++) {
+        const int one = which & 1, other = which >> 1 & 1, is_good = which < 4, is_equal = one == other;
+        uint64_t siblings[2][4], a[4] = {9, 9, 9, 9}, b[4] = {9, 9, 9, 9}, level = 99;
+        memcpy(siblings[0], weak_siblings[one], sizeof *siblings);
+        memcpy(siblings[1], weak_siblings[other], sizeof *siblings);
+        siblings[0][0] += which >> 2 & 1;
+        siblings[1][3] += which >> 3 & 1;
+        const uint8_t wanted = is_equal ? 15 : is_good ? 0 : 14;
+        expect("good and bad openings", opening_tree_extract(WEAK, weak_root, 2, 3, weak_leaves[one], 2, siblings[0], 4, weak_leaves[other], 2,
+                                                             siblings[1], 4, a, 4, b, 4, &level) == wanted);
+        expect("the level", level == (wanted == 0 ? 1 : 99) && (wanted == 0 || (a[0] == 9 && b[3] == 9)));
+    }
+}
+
 /* Leaves of files under T, where a message block is two words, 14 bytes. The message of the empty file, with 01 and zeros, is the words
    52915648556130 and 1, and that of `hello\n`, with 01, the words 59512718322786 and 292948653401448. So their leaves begin the permutation
    of these and two zeros: 16155333835464672045, 8750051444766971692 and 7674626845191841513, 11908278685281199477. With the 01 in the
@@ -827,6 +843,7 @@ int main(void) {
     shared_nodes();
     repeats();
     extraction();
+    good_and_bad_openings();
     collisions();
     files();
     long_files();

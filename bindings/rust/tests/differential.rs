@@ -3,7 +3,7 @@
 mod model;
 mod support;
 
-use model::field::{inverse, subtract, P};
+use model::field::{add, inverse, subtract, P};
 use model::set::{Set, DIAGONAL_PLACES};
 use opening_tree::Record;
 use support::calls::{kept, Answer, Call, Entry};
@@ -404,8 +404,51 @@ fn extractions(generator: &mut Generator, tally: &mut Tally, made: &Collision, k
         swapped.buffers.swap(2, 4);
         tally.compare(swapped);
 
+        good_and_bad_openings(generator, tally, &call, expected);
         let mut damaged = call;
         damage(generator, &mut damaged);
         tally.compare(damaged);
     }
+}
+
+/// Two openings that are both accepted, whose answer is given, and either of them twice; each with its siblings as they are, or with one
+/// word another. Equal leaves are refused with 15 in any case, and different ones with 14 unless both openings are good.
+fn good_and_bad_openings(generator: &mut Generator, tally: &mut Tally, call: &Call, answer: Answer) {
+    for (first, second) in [(1, 3), (3, 1), (1, 1), (3, 3)] {
+        let mut base = call.clone();
+        for (to, from) in [(1, first), (3, second)] {
+            base.buffers[to..to + 2].clone_from_slice(&call.buffers[from..from + 2]);
+        }
+        let equal = base.buffers[1] == base.buffers[3];
+        for bad in [&[][..], &[2], &[4], &[2, 4]] {
+            let mut call = base.clone();
+            for &siblings in bad {
+                let at = generator.below(call.buffers[siblings].len());
+                call.buffers[siblings][at] = add(call.buffers[siblings][at], 1 + generator.below(1000) as u64);
+            }
+            let expected = match (equal, bad) {
+                (true, _) => Answer::Refused(15),
+                (false, []) => answer.clone(),
+                (false, _) => Answer::Refused(14),
+            };
+            assert_eq!(tally.compare(call.clone()), expected, "{bad:?}");
+            if equal && bad.len() == 2 {
+                before_equal_leaves(&call, tally);
+            }
+        }
+    }
+}
+
+/// What is tested before equal leaves is refused before them, here where neither opening is accepted.
+fn before_equal_leaves(call: &Call, tally: &mut Tally) {
+    let mut compare = |change: &dyn Fn(&mut Call), number: u8| {
+        let mut call = call.clone();
+        change(&mut call);
+        assert_eq!(tally.compare(call), Answer::Refused(number));
+    };
+    compare(&|call| call.set.total_inverse = add(call.set.total_inverse, 1), 18);
+    compare(&|call| call.buffers[6].push(0), 10);
+    compare(&|call| call.numbers[0] = call.set.places() as u64, 11);
+    compare(&|call| (call.buffers[1][0], call.buffers[3][0]) = (P, P), 12);
+    compare(&|call| call.buffers[4][0] = P, 12);
 }

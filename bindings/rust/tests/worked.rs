@@ -463,6 +463,23 @@ fn a_collision_above_the_leaves() {
     assert_eq!(set.extract(&root, WEAK_PLACE, FIRST, SECOND), Ok(collision));
     assert_eq!(set.extract(&root, WEAK_PLACE, FIRST, FIRST), Err(Refusal::EqualLeaves));
     assert_eq!(set.extract(&root, WEAK_PLACE - 1, FIRST, SECOND), Err(Refusal::NotAccepted));
+    assert_eq!(set.extract(&root, WEAK_PLACE - 1, FIRST, FIRST), Err(Refusal::EqualLeaves));
+    assert_eq!(set.extract(&root, WEAK_PLACE, FIRST, Offer { leaf: FIRST.leaf, ..SECOND }), Err(Refusal::EqualLeaves));
+}
+
+#[test]
+fn a_leaf_beside_itself() {
+    let (set, root) = (set(T), Root::from(&[6, 4][..]));
+    let offer = |leaf, siblings| Offer { leaf, siblings };
+    let own = offer(&[1, 0], &[0, 0]);
+    for (other, refusal) in [
+        (own, Refusal::EqualLeaves),
+        (offer(&[1, 0], &[0, 1]), Refusal::EqualLeaves),
+        (offer(&[2, 0], &[0, 0]), Refusal::NotAccepted),
+    ] {
+        assert_eq!(set.extract(&root, 0, own, other), Err(refusal));
+        assert_eq!(set.extract(&root, 0, other, own), Err(refusal));
+    }
 }
 
 /// A message block is two words here, 14 bytes, which `hello\n` fills with its padding.
