@@ -1,7 +1,7 @@
 """Holds the pages to what they speak of: a program that a page shows is the one that is run and prints what the reference does, a link
 leads to a file, the header, the exported functions and the bindings name the same functions, every copy of the published numbers is that of
-the reference, every entry of docs/ENTRIES.md has two must-fail edits named for it, and outside the crates that CONTRIBUTING.md says may
-know it nothing names the prime. The last line counts the checks."""
+the reference, refusals have one order wherever they are listed, every entry of docs/ENTRIES.md has two must-fail edits named for it, and
+outside the crates that CONTRIBUTING.md says may know it nothing names the prime. The last line counts the checks."""
 import pathlib
 import re
 import subprocess
@@ -10,6 +10,7 @@ import sys
 ROOT = pathlib.Path(__file__).resolve().parent.parent
 sys.path.insert(0, str(ROOT / "reference"))
 
+import cases  # noqa: E402
 import published  # noqa: E402
 
 PAGES = sorted(p for p in ROOT.rglob("*.md") if "target" not in p.relative_to(ROOT).parts)
@@ -65,6 +66,26 @@ check(len(entries) > 20, "docs/ENTRIES.md has no entries")
 for entry in entries:
     edits = list(ROOT.glob(f"crates/*/must-fail/{entry}-*.edit"))
     check(len(edits) > 1, f"{entry} has {len(edits)} must-fail edits named for it")
+
+# The order of the rules: their table, and the conditions of each entry, but for what 8.2 excepts.
+rules, bindings = read("docs/RULES.md"), read("bindings/rust/src/refusal.rs")
+table = rules[rules.index("**8.1**"):rules.index("**8.2**")]
+order = [int(number) for number in re.findall(r"^\| (\d+) \|", table, re.M)]
+numbers = dict(re.findall(r"^    (\w+) = (\d+),", bindings, re.M))
+[tested] = re.findall(r"ALL: \[Refusal; \d+\] = \[(.*?)\];", bindings, re.S)
+defined = re.findall(r"^#define OPENING_TREE_\w+ (\d+) +/\*", read("include/opening_tree.h"), re.M)
+check(len(order) > 10 and len(set(order)) == len(order), "the table of refusals has none, or one twice")
+check(cases.TESTED == order, "the reference's cases have another order of refusals")
+check([int(numbers.get(name, 0)) for name in re.findall(r"Refusal::(\w+)", tested)] == order, "the bindings have another order of refusals")
+check([int(number) for number in defined if number != "255"] == order, "the header has another order of refusals")
+conditions = re.findall(r"^\| (`\w+`.*?) \| (.*?) \|", rules[rules.index("**8.8**"):rules.index("## 9")], re.M)
+check(len(conditions) > 15, "docs/RULES.md has no conditions of entries")
+for names, listed in conditions:
+    given = [int(number) for number in re.findall(r"(?:^|; )(\d+)\b", listed)]
+    if names.startswith("`root_text`"):
+        given = given[1:]
+    if len(given) > 1:
+        check(given == sorted(given, key=order.index), f"{names}: the conditions are in another order than the table's")
 
 KNOW_THE_PRIME = {"modular", "field", "roots", "layers", "permutation", "fields"}
 NAMES = re.compile(r"Goldilocks|goldilocks|18446744069414584321|(?<!\w)(field|layers)::")
