@@ -9,13 +9,13 @@ use Rattle.paths.proofs.comparison.first_alike.Statement.{statement}
 use Rattle.paths.proofs.comparison.first_alike.Tie as tie
 
 abbrev Inv-loop : tie.InvT-loop
-Inv-loop a b n i₀ i = (i ≤ n) × ((k : ℕ) → k < i → getD a k 0 ≡ getD b k 0)
+Inv-loop a b n i₀ i = ((k : ℕ) → k < i → getD a k 0 ≡ getD b k 0) × (i ≤ n)
 
 abbrev μ-loop : tie.MeasureT-loop
 μ-loop a b n i₀ i = n - i
 
 loop-holds : tie.Need-loop-holds Inv-loop μ-loop
-loop-holds c = (omega arith, λ k b. absurd (omega arith))
+loop-holds c = (λ k b. absurd (omega arith), omega arith)
 
 mul-if1 : tie.Need-mul-if1 Inv-loop μ-loop
 mul-if1 c = omega arith
@@ -42,13 +42,13 @@ loop-less : tie.Need-loop-less Inv-loop μ-loop
 loop-less c = omega arith
 
 loop-again : tie.Need-loop-again Inv-loop μ-loop
-loop-again c = (omega arith, below-more _ _ (c .before .before .before .before .loop .inv .1) (c .if1 .left))
+loop-again c = (below-more _ _ (c .before .before .before .before .loop .inv .0) (c .if1 .left), omega arith)
 
 returns-2 : tie.Need-returns-2 Inv-loop μ-loop
 returns-2 c =
     let l = c .before in
     let a = l .before .args in
-    sym (alike (a .a .now) (a .b .now) (a .n) (omega arith) (omega arith) (l .loop .i) (omega arith) (l .loop .inv .1))
+    sym (alike (a .a .now) (a .b .now) (a .n) (omega arith) (omega arith) (l .loop .i) (omega arith) (l .loop .inv .0))
 
 pub first-alike-spec : {M : Type 1} → statement M
 first-alike-spec =
