@@ -2,7 +2,8 @@
  * Merkle openings over Poseidon2, proved: each function returns and writes what its definition says, whatever numbers it is handed. The
  * library is target/staticlib/libopening_tree_c.a (rt staticlib opening_tree_c), for x86-64 Linux; this header is C99 and C++11.
  *
- * NUMBERS. A word is a number below p = 18446744069414584321 = 2^64 - 2^32 + 1. Others, p itself among them, are no words.
+ * NUMBERS. A word is a number below p = 18446744069414584321 = 2^64 - 2^32 + 1. Others, p itself among them, are no words, and are refused
+ * where a word is wanted. opening_tree_product and opening_tree_power want none: they take any numbers, reduced or not.
  *
  * A PARAMETER SET is an array of OPENING_TREE_SET_SIZE numbers, which opening_tree_validate writes and the functions after it are handed:
  *     [0] to [4]      width t, node_size l, height h, full_rounds R_F, partial_rounds R_P
@@ -79,7 +80,7 @@ extern "C" {
 #define OPENING_TREE_BAD_KEPT_VALUES 18    /* the kept values of a set that is handed in are not those of its D */
 #define OPENING_TREE_BAD_LENGTH 10         /* another buffer is not of its exact length, or a push has over 2^32 records */
 #define OPENING_TREE_BAD_PLACE 11          /* a place is not below k^h, or a level not below h */
-#define OPENING_TREE_NOT_A_WORD 12         /* a number handed in is not a word */
+#define OPENING_TREE_NOT_A_WORD 12         /* a number that has to be a word is not one */
 #define OPENING_TREE_FILE_TOO_LONG 16      /* the contents of a file are over 4294967295 bytes */
 #define OPENING_TREE_REPEATED_PLACE 17     /* two records of a push have the same place */
 #define OPENING_TREE_NO_INVERSE 13         /* the inverse of 0 */
@@ -98,10 +99,11 @@ uint8_t opening_tree_sum(uint64_t a, uint64_t b, uint64_t *result);
 /* a - b. Writes *result. Refusals: 12 (a, b). */
 uint8_t opening_tree_difference(uint64_t a, uint64_t b, uint64_t *result);
 
-/* a * b. Writes *result. Refusals: 12 (a, b). */
+/* a * b, for any two numbers, words or not. Writes *result, a word. Refusals: none, so that 0 is always returned. */
 uint8_t opening_tree_product(uint64_t a, uint64_t b, uint64_t *result);
 
-/* base to the power exponent; 1 for the exponent 0. Writes *result. Refusals: 12 (base; the exponent is any number). */
+/* base to the power exponent, for any two numbers, words or not; 1 for the exponent 0. Writes *result, a word. Refusals: none, so that 0 is
+   always returned. */
 uint8_t opening_tree_power(uint64_t base, uint64_t exponent, uint64_t *result);
 
 /* The word whose product with x is 1. Writes *result. Refusals, in this order: 12 (x), 13 (x is 0). */

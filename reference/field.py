@@ -39,16 +39,12 @@ def difference(a: int, b: int) -> Answer:
 
 
 def product(a: int, b: int) -> Answer:
-    """The product modulo p (Rules 1.3)."""
-    if not all_words([a, b]):
-        return ("refused", 12)
+    """The product modulo p of any two numbers (Rules 1.3, 1.8)."""
     return ("word", (a * b) % P)
 
 
 def power(a: int, exponent: int) -> Answer:
-    """The power modulo p, for any exponent; with the exponent 0 it is 1 (Rules 1.4)."""
-    if not is_word(a):
-        return ("refused", 12)
+    """The power modulo p of any number with any exponent; with 0 it is 1 (Rules 1.4, 1.8)."""
     return ("word", pow(a, exponent, P))
 
 

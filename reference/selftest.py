@@ -13,6 +13,7 @@ from unittest.mock import patch
 import cases
 import diagonal_cases
 import field
+import field_vectors
 import file_checks
 import history_cases
 import history_vectors
@@ -123,6 +124,12 @@ def worked_field() -> Iterator[Check]:
     yield "(p-1)x(p-1)", field.product(P - 1, P - 1), ("word", 1)
     yield "2^32 x 2^32", field.product(2**32, 2**32), ("word", 4294967295)
     yield "2^48 x 2^48", field.product(2**48, 2**48), ("word", P - 1)
+    yield "p x p", field.product(P, P), ("word", 0)
+    yield "(p+1)x(p-1)", field.product(P + 1, P - 1), ("word", P - 1)
+    yield "(2^64-1)x(2^64-1)", field.product(2**64 - 1, 2**64 - 1), ("word", P - 12884901885)
+    yield "p to the power 0", field.power(P, 0), ("word", 1)
+    yield "p to the power 1", field.power(P, 1), ("word", 0)
+    yield "p + 2 to the power 7", field.power(P + 2, 7), ("word", 128)
     yield "0-1", field.difference(0, 1), ("word", P - 1)
     yield "inverse of 2", field.inverse(2), ("word", 9223372034707292161)
     yield "root of 128", field.seventh_root(128), ("word", 2)
@@ -231,12 +238,10 @@ def worked_word() -> Iterator[Check]:
     """p is refused with 12 wherever a word is wanted, and p - 1 is not."""
     s = set_t()
     for n, fits in ((P, False), (P - 1, True)):
-        store = built(s, [1, 0, 0, 0])
+        store, rows = built(s, [1, 0, 0, 0]), ([9] * 4, [9] * 4)
         answers = {
             "sum": field.sum(n, 0),
             "difference": field.difference(0, n),
-            "product": field.product(1, n),
-            "power": field.power(n, 0),
             "inverse": field.inverse(n),
             "seventh root": field.seventh_root(n),
             "permutation": poseidon2.permute(s, [0, 0, 0, n]),
@@ -244,11 +249,14 @@ def worked_word() -> Iterator[Check]:
             "compression": poseidon2.compress(s, [0, n, 0, 0], 2),
             "building": merkle.build(s, [0, 0, n, 0], [0] * 6),
             "storeless root": merkle.storeless_root(s, [0, 0, n, 0]),
+            "root": merkle.root(s, [*store[:5], n]),
+            "opening": merkle.opening(s, [0, 0, n, 0, 6, 4], 0, [0, 0]),
             "verdict, root": merkle.verify(s, [6, n], 0, [1, 0], [0, 0]),
             "verdict, leaf": merkle.verify(s, [6, 4], 0, [n, 0], [0, 0]),
             "verdict, sibling": merkle.verify(s, [6, 4], 0, [1, 0], [0, n]),
             "replacement": merkle.replace(s, store, 0, [n, 0]),
             "push": merkle.push(s, store, [(0, [0, n, 0, 0, 0, 0])]),
+            "extraction": merkle.extract(s, [6, 4], 0, [1, 0], [0, 0], [n, 0], [0, 0], *rows),
         }
         for name, answer in answers.items():
             yield f"{name} of {n}", answer != ("refused", 12), fits
@@ -278,12 +286,33 @@ def published_instances() -> Iterator[Check]:
 # Further checks of the reference against the rules.
 
 
+def times(a: int, b: int) -> int:
+    """A product of words modulo p by doubling and adding alone, the highest bit of b first."""
+    r = 0
+    for bit in f"{b:064b}":
+        for more in (r, a if bit == "1" else 0):
+            r = r + more if r + more < P else r + more - P
+    return r
+
+
+def any_numbers() -> Iterator[Check]:
+    """Products and powers of any numbers are those of their residues, and nothing is refused."""
+    words = {n: n if n < P else n - P for n in field_vectors.EDGES}
+    for a, b in product(words, repeat=2):
+        yield f"{a} x {b}", field.product(a, b), ("word", times(words[a], words[b]))
+        raised = 1
+        for bit in f"{b:b}":
+            raised = times(times(raised, raised), words[a] if bit == "1" else 1)
+        yield f"{a} to the power {b}", field.power(a, b), ("word", raised)
+
+
 def field_rules() -> Iterator[Check]:
     """The field's rules beyond the worked cases."""
     yield "root's exponent", field.SEVENTH_ROOT_EXPONENT, 10540996611094048183
     yield "0 to the power 0", field.power(0, 0), ("word", 1)
     yield "exponent p is free", field.power(3, P), ("word", 3)
     yield "exponent 2^64 - 1", field.power(2, 2**64 - 1), ("word", 2**31 * 2**32 % P)
+    yield from any_numbers()
     yield "inverse of 0", field.inverse(0), ("refused", 13)
     yield "inverse of p", field.inverse(P), ("refused", 12)
     yield "inverse of 2^64 - 1", field.inverse(2**64 - 1), ("refused", 12)
@@ -291,8 +320,10 @@ def field_rules() -> Iterator[Check]:
     for word in seeded_words(rng, 50):
         _, inverse = field.inverse(word)
         yield f"inverse of {word}", field.product(word, inverse), ("word", 1)
+        yield f"inverse of {word} is a word", field.is_word(inverse), True
         _, root = field.seventh_root(word)
         yield f"root of {word}", field.power(root, 7), ("word", word)
+        yield f"root of {word} is a word", field.is_word(root), True
 
 
 def validation_refusals() -> Iterator[Check]:

@@ -53,12 +53,36 @@ static void field(void) {
     uint64_t r = 99;
     expect("p is no word, and the result stays", opening_tree_sum(P, 0, &r) == 12 && r == 99);
     expect("0 has no inverse, and the result stays", opening_tree_inverse(0, &r) == 13 && r == 99);
+    expect("p is no word to take away", opening_tree_difference(0, P, &r) == 12 && r == 99);
+    expect("p + 1 is no word to invert", opening_tree_inverse(P + 1, &r) == 12 && r == 99);
+    expect("2^64 - 1 is no word to take a root of", opening_tree_seventh_root(UINT64_MAX, &r) == 12 && r == 99);
     expect("sum", opening_tree_sum(P - 1, 2, &r) == 0 && r == 1);
     expect("difference", opening_tree_difference(0, 1, &r) == 0 && r == P - 1);
     expect("product", opening_tree_product(UINT64_C(1) << 32, UINT64_C(1) << 32, &r) == 0 && r == 4294967295);
+    expect("product of p and p", opening_tree_product(P, P, &r) == 0 && r == 0);
+    expect("product of p + 1 and p - 1", opening_tree_product(P + 1, P - 1, &r) == 0 && r == P - 1);
+    expect("product of the largest", opening_tree_product(UINT64_MAX, UINT64_MAX, &r) == 0 && r == P - UINT64_C(12884901885));
     expect("power", opening_tree_power(2, 10, &r) == 0 && r == 1024);
+    expect("p to the power 0", opening_tree_power(P, 0, &r) == 0 && r == 1);
+    expect("p to the power 1", opening_tree_power(P, 1, &r) == 0 && r == 0);
+    expect("p + 2 to the power 7", opening_tree_power(P + 2, 7, &r) == 0 && r == 128);
     expect("inverse", opening_tree_inverse(2, &r) == 0 && r == UINT64_C(9223372034707292161));
     expect("seventh root", opening_tree_seventh_root(128, &r) == 0 && r == 2);
+}
+
+/* Products and powers are those of the residues, and words: of the numbers at edges, in every pairing. */
+static void any_numbers(void) {
+    const uint64_t two32 = UINT64_C(1) << 32;
+    const uint64_t edges[] = {0, 1, two32 - 1, two32, two32 + 1, UINT64_C(1) << 63, P + P, P - 2, P - 1, P, P + 1, UINT64_MAX};
+    const size_t count = sizeof edges / sizeof *edges;
+    for (size_t i = 0; i < count * count; i++) {
+        const uint64_t a = edges[i / count], b = edges[i % count];
+        uint64_t r = 99, of_residues = 99;
+        expect("product of any numbers", opening_tree_product(a, b, &r) == 0 && r < P);
+        expect("product of residues", opening_tree_product(a % P, b % P, &of_residues) == 0 && of_residues == r);
+        expect("power of any number", opening_tree_power(a, b, &r) == 0 && r < P);
+        expect("power of a residue", opening_tree_power(a % P, b, &of_residues) == 0 && of_residues == r);
+    }
 }
 
 /* What is kept of D: each inverse makes 1 with its word, and is 0 for a 0 and beyond the words; that of 1 plus their sum makes 1 with it,
@@ -75,6 +99,7 @@ static void kept_values(const uint64_t *set) {
     expect("nothing is kept beyond", all(set + INVERSES + set[WIDTH], 0, 12 - set[WIDTH]));
     if (zeros > 0) expect("kept of a sum, with a zero", set[TOTAL_INVERSE] == 0);
     else expect("kept of a sum", opening_tree_product(sum, set[TOTAL_INVERSE], &product) == 0 && product == 1);
+    expect("what is kept of a sum is a word", set[TOTAL_INVERSE] < P);
 }
 
 /* Makes a set in an array of any numbers: every number and list in its places, 0 beyond them, and what is kept. */
@@ -820,6 +845,7 @@ static void null_openings(void) {
 int main(void) {
     uint64_t set[SIZE];
     field();
+    any_numbers();
     sets();
     no_sets();
     states();

@@ -136,13 +136,14 @@ pub fn difference(a: u64, b: u64) -> Result<u64, Refusal> {
     written(|result| unsafe { sys::opening_tree_difference(a, b, result) })
 }
 
-/// a × b. Refusal 12.
+/// a × b modulo p, for any two numbers, words or not. It refuses nothing: the answer is always `Ok`.
 pub fn product(a: u64, b: u64) -> Result<u64, Refusal> {
     // SAFETY: the result is one number that nothing else refers to.
     written(|result| unsafe { sys::opening_tree_product(a, b, result) })
 }
 
-/// The base to the power of any exponent; 1 for the exponent 0. Refusal 12 for the base.
+/// The base to the power of the exponent modulo p, for any two numbers, words or not; 1 for the exponent 0. It refuses nothing: the answer
+/// is always `Ok`.
 pub fn power(base: u64, exponent: u64) -> Result<u64, Refusal> {
     // SAFETY: the result is one number that nothing else refers to.
     written(|result| unsafe { sys::opening_tree_power(base, exponent, result) })
@@ -480,8 +481,6 @@ mod tests {
             [
                 sys::opening_tree_sum(P, 0, number),
                 sys::opening_tree_difference(0, P, number),
-                sys::opening_tree_product(P, 1, number),
-                sys::opening_tree_power(P, 1, number),
                 sys::opening_tree_inverse(0, number),
                 sys::opening_tree_seventh_root(P, number),
                 sys::opening_tree_replace(set.as_ptr(), store.as_mut_ptr(), 6, 2, [1, 1].as_ptr(), 2, number),
@@ -508,8 +507,21 @@ mod tests {
                 ),
             ]
         };
-        assert_eq!(returned, [12, 12, 12, 12, 13, 12, 11, 11, 17, 14]);
+        assert_eq!(returned, [12, 12, 13, 12, 11, 11, 17, 14]);
         assert_eq!(kept, KEPT);
+    }
+
+    /// A product and a power are written whatever is handed in.
+    #[test]
+    fn products_and_powers_refuse_nothing() {
+        for numbers in [[P, 1], [1, P], [P, P], [u64::MAX, u64::MAX]] {
+            let [a, b] = numbers;
+            let (mut product, mut power) = (KEPT, KEPT);
+            // SAFETY: each result is one number that nothing else refers to.
+            let returned = unsafe { [sys::opening_tree_product(a, b, &mut product), sys::opening_tree_power(a, b, &mut power)] };
+            assert_eq!(returned, [0, 0]);
+            assert!(product < P && power < P, "{numbers:?}: {product}, {power}");
+        }
     }
 
     /// The small set with one number another.

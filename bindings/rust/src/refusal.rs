@@ -40,7 +40,7 @@ pub enum Refusal {
     BadLength = 10,
     /// A place is not below the number of leaves, or a level not below the height.
     BadPlace = 11,
-    /// A number handed in is not a word.
+    /// A number that has to be a word is not one.
     NotAWord = 12,
     /// The inverse of 0.
     NoInverse = 13,
@@ -104,7 +104,7 @@ impl fmt::Display for Refusal {
             Refusal::SingularDiagonal => "no word of the diagonal is 0, and 1 plus their inverses is 0",
             Refusal::BadLength => "a buffer is not of its exact length, or a push has over 2^32 records",
             Refusal::BadPlace => "a place is not below the number of leaves, or a level not below the height",
-            Refusal::NotAWord => "a number handed in is not a word",
+            Refusal::NotAWord => "a number that has to be a word is not one",
             Refusal::NoInverse => "0 has no inverse",
             Refusal::NotAccepted => "an opening handed to the extractor is not accepted",
             Refusal::EqualLeaves => "the leaves handed to the extractor are equal",

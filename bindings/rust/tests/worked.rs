@@ -88,10 +88,16 @@ fn arithmetic() {
     assert_eq!(field::product(P - 1, P - 1), Ok(1));
     assert_eq!(field::product(1 << 32, 1 << 32), Ok(4294967295));
     assert_eq!(field::product(1 << 48, 1 << 48), Ok(P - 1));
+    assert_eq!(field::product(P, P), Ok(0));
+    assert_eq!(field::product(P + 1, P - 1), Ok(P - 1));
+    assert_eq!(field::product(u64::MAX, u64::MAX), Ok(P - 12884901885));
     assert_eq!(field::difference(0, 1), Ok(P - 1));
     assert_eq!(field::inverse(2), Ok(9223372034707292161));
     assert_eq!(field::seventh_root(128), Ok(2));
     assert_eq!(field::power(0, 0), Ok(1));
+    assert_eq!(field::power(P, 0), Ok(1));
+    assert_eq!(field::power(P, 1), Ok(0));
+    assert_eq!(field::power(P + 2, 7), Ok(128));
 }
 
 /// Of D a set keeps the inverses, and that of 1 plus their sum, which under T is 37 / 12 and under BALANCED 1.

@@ -18,12 +18,12 @@ sumReply p a b = reply (notWords p (a ∷ b ∷ []) ∷ []) (add p a b ∷ [])
 unfoldable pub differenceReply : ℕ → ℕ → ℕ → Reply
 differenceReply p a b = reply (notWords p (a ∷ b ∷ []) ∷ []) (sub p a b ∷ [])
 
+-- Any two numbers have a product, and any base a power with any exponent: the reply is always the word, and nothing is refused (Rules 1.8).
 unfoldable pub productReply : ℕ → ℕ → ℕ → Reply
-productReply p a b = reply (notWords p (a ∷ b ∷ []) ∷ []) (mul p a b ∷ [])
+productReply p a b = done (mul p a b ∷ [])
 
--- The exponent is any number (Rules 1.4, 8.4).
 unfoldable pub powerReply : ℕ → ℕ → ℕ → Reply
-powerReply p a e = reply (notWords p (a ∷ []) ∷ []) (pow p a e ∷ [])
+powerReply p a e = done (pow p a e ∷ [])
 
 -- The inverse of 0 is refused with 13 (Rules 1.5).
 unfoldable pub inverseReply : ℕ → ℕ → Reply

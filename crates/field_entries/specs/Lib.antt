@@ -1,2 +1,3 @@
--- What each entry of the field replies.
+-- What each entry of the field replies, and what is claimed of products and powers.
 pub mod Arithmetic
+pub mod Statements

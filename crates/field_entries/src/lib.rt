@@ -37,28 +37,17 @@ pub fn difference(a: u64, b: u64) -> Answer
     Answer::Word(fields::difference(a, b))
 }
 
-// a * b modulo p.
+// a * b modulo p, for any two numbers: always the word.
 pub fn product(a: u64, b: u64) -> Answer
     ensures { λ r. ⌜ replyOf r ≡ productReply prime a b ⌝ }
 {
-    let order = fields::order();
-    if order <= a {
-        return Answer::Refused(12);
-    }
-    if order <= b {
-        return Answer::Refused(12);
-    }
     Answer::Word(fields::product(a, b))
 }
 
-// base to the power exponent modulo p. The exponent is any number of 64 bits.
+// base to the power exponent modulo p, for any two numbers: always the word.
 pub fn power(base: u64, exponent: u64) -> Answer
     ensures { λ r. ⌜ replyOf r ≡ powerReply prime base exponent ⌝ }
 {
-    let order = fields::order();
-    if order <= base {
-        return Answer::Refused(12);
-    }
     Answer::Word(fields::power(base, exponent))
 }
 

@@ -37,4 +37,4 @@ undone =
 pub worked : Worked
 unfolding add sub mul pow addLists sum dot rowsTimes m4Rows m4 blocks joinBlocks sumBlocks addToEach mixed external sums m4Blocks plusMultiples internal addConstants seventhPowers fullRound raiseFirst partialRound fullRounds partialRounds permuteAt permute compress put joined level above build root member once aboveAt sumUpTo nodesAbove littleEndian numbersOf digits decimal blobHead message shortfall paddedTo packed fileWords zeros severalZeros badDiagonal diagonalRefusals firstRefusal
 worked =
-    (refl, (refl, (refl, (refl, (ap (λ (x : ℕ). x ∷ []) inverse-of-two, (refl, (refl, (refl, (refl, (refl, (refl, (refl, (refl, (refl, (refl, (refl, (refl, (undone, (refl, (refl, (refl, (refl, (refl, (refl, (refl, (refl, (refl, (refl, (refl, (refl, (refl, (refl, (refl, (refl, (refl, (refl, tt))))))))))))))))))))))))))))))))))))
+    (refl, (refl, (refl, (refl, (refl, (refl, (ap (λ (x : ℕ). x ∷ []) inverse-of-two, (refl, (refl, (refl, (refl, (refl, (refl, (refl, (refl, (refl, (refl, (refl, (refl, (undone, (refl, (refl, (refl, (refl, (refl, (refl, (refl, (refl, (refl, (refl, (refl, (refl, (refl, (refl, (refl, (refl, (refl, (refl, tt))))))))))))))))))))))))))))))))))))))

@@ -2,7 +2,7 @@
 use mathlib.Core.Path.{_≡_}
 use mathlib.Core.List.{List, [], _∷_, _++_}
 use Prim.Native.Nat.{ℕ, _+_, _-_, _^_}
-use Rattle.modular.specs.Arithmetic.{sub, mul, inverse}
+use Rattle.modular.specs.Arithmetic.{sub, mul, pow, inverse}
 use Rattle.refusals.specs.Table.{firstRefusal}
 use Rattle.fields.specs.Prime.{prime, wordBytes}
 use Rattle.poseidon2.specs.Layers.{m4, external, sums, m4Blocks, internal}
@@ -28,6 +28,8 @@ fieldCases =
     case (mul prime (prime - 1) (prime - 1) ∷ []) (1 ∷ []) ∷
     case (mul prime (2 ^ 32) (2 ^ 32) ∷ []) (4294967295 ∷ []) ∷
     case (mul prime (2 ^ 48) (2 ^ 48) ∷ []) ((prime - 1) ∷ []) ∷
+    case (mul prime prime prime ∷ mul prime (prime + 1) (prime - 1) ∷ mul prime (2 ^ 64 - 1) (2 ^ 64 - 1) ∷ []) (0 ∷ (prime - 1) ∷ (prime - 12884901885) ∷ []) ∷
+    case (pow prime prime 0 ∷ pow prime prime 1 ∷ pow prime (prime + 2) 7 ∷ []) (1 ∷ 0 ∷ 128 ∷ []) ∷
     case (sub prime 0 1 ∷ []) ((prime - 1) ∷ []) ∷
     case (inverse prime 2 ∷ []) (9223372034707292161 ∷ []) ∷ []
 

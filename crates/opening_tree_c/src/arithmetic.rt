@@ -20,7 +20,7 @@ pub extern "C" fn opening_tree_difference(a: u64, b: u64, result: &mut u64) -> u
     replies::of_answer(opening_tree::difference(a, b), result)
 }
 
-// a times b.
+// a times b, for any two numbers.
 #[no_mangle]
 pub extern "C" fn opening_tree_product(a: u64, b: u64, result: &mut u64) -> u8
     ensures { λ r. ⌜ (r ≡ numberOf (productReply prime a b)) × (now (result .exit) ≡ valueAfter (productReply prime a b) (now (result .entry))) ⌝ }
@@ -28,7 +28,7 @@ pub extern "C" fn opening_tree_product(a: u64, b: u64, result: &mut u64) -> u8
     replies::of_answer(opening_tree::product(a, b), result)
 }
 
-// The base to the power of the exponent.
+// The base to the power of the exponent, for any two numbers.
 #[no_mangle]
 pub extern "C" fn opening_tree_power(base: u64, exponent: u64, result: &mut u64) -> u8
     ensures { λ r. ⌜ (r ≡ numberOf (powerReply prime base exponent)) × (now (result .exit) ≡ valueAfter (powerReply prime base exponent) (now (result .entry))) ⌝ }

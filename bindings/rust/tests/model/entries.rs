@@ -36,13 +36,13 @@ pub fn difference(a: u64, b: u64) -> Result<u64, u8> {
     Ok(field::subtract(a, b))
 }
 
+/// Of any numbers.
 pub fn product(a: u64, b: u64) -> Result<u64, u8> {
-    words(&[a, b])?;
     Ok(field::multiply(a, b))
 }
 
+/// Of any numbers.
 pub fn power(base: u64, exponent: u64) -> Result<u64, u8> {
-    words(&[base])?;
     Ok(field::power(base, exponent))
 }
 

@@ -1,4 +1,4 @@
-//! Arithmetic modulo p, on words.
+//! Arithmetic modulo p, on words; products and powers also on any numbers.
 
 pub const P: u64 = 18446744069414584321;
 

@@ -78,6 +78,7 @@ impl Entry {
     /// The numbers of the refusals that it can give, rising.
     pub fn refusals(self) -> Vec<u8> {
         let own: &[u8] = match self {
+            Entry::Product | Entry::Power => &[],
             Entry::Inverse => &[12, 13],
             field if field.is_of_field() => &[12],
             Entry::Validate => &[1, 2, 3, 4, 5, 6, 7, 8, 9],

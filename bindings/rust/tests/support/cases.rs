@@ -232,11 +232,12 @@ fn contents(generator: &mut Generator, set: &Set) -> Vec<u8> {
 pub fn call(generator: &mut Generator, entry: Entry, set: Set) -> Call {
     let (t, l) = (set.width as usize, set.node_size as usize);
     let (numbers, buffers) = match entry {
-        Entry::Sum | Entry::Difference | Entry::Product => (generator.words(2), vec![]),
+        Entry::Sum | Entry::Difference => (generator.words(2), vec![]),
+        Entry::Product => (generator.junk(2), vec![]),
         Entry::Power => {
             let edges = [0, 1, 2, 7, 1 << 63, P - 2, P - 1, P, P + 1, u64::MAX];
             let exponent = if generator.once_in(4) { generator.pick(&edges) } else { generator.number() };
-            (vec![generator.word(), exponent], vec![])
+            (vec![generator.junk(1)[0], exponent], vec![])
         }
         Entry::Inverse => (vec![generator.non_zero_word()], vec![]),
         Entry::SeventhRoot => {

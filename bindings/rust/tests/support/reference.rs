@@ -109,12 +109,16 @@ impl Input {
 
 /// The reference's own generator, modulo p.
 fn drawn(seed: u64, count: usize) -> Vec<u64> {
+    drawn_numbers(seed).take(count).map(|x| x % P).collect()
+}
+
+/// The reference's own generator, without end.
+pub fn drawn_numbers(seed: u64) -> impl Iterator<Item = u64> {
     let mut x = 88172645463325252u64.wrapping_add(seed);
-    let mut draw = || {
+    std::iter::repeat_with(move || {
         x ^= x << 13;
         x ^= x >> 7;
         x ^= x << 17;
-        x % P
-    };
-    (0..count).map(|_| draw()).collect()
+        x
+    })
 }

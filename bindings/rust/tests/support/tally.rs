@@ -34,8 +34,8 @@ pub struct Pushes {
 #[derive(Default)]
 pub struct Tally {
     counts: [[u64; REJECTED + 1]; Entry::ALL.len()],
-    /// Calls that were done though a number in their buffers was not a word, since it is not looked at.
-    passed_over: [u64; Entry::ALL.len()],
+    /// Calls that were done though a number in their buffers, or one to multiply, was not a word.
+    with_no_words: [u64; Entry::ALL.len()],
     /// Calls that were done under a set whose diagonal has a zero.
     with_zero: [u64; Entry::ALL.len()],
     /// Calls that were done under a set of which a place that it does not use holds another number than 0.
@@ -75,9 +75,13 @@ impl Tally {
             Answer::Refused(number) => *number as usize,
         };
         self.counts[entry][column] += 1;
-        let numbers = if call.entry == Entry::Power { &call.numbers[..] } else { &[] };
+        let numbers = match call.entry {
+            Entry::Product => &call.numbers[..],
+            Entry::Power => &call.numbers[..1],
+            _ => &[],
+        };
         if column == DONE && call.buffers.iter().flatten().chain(numbers).any(|&n| !is_word(n)) {
-            self.passed_over[entry] += 1;
+            self.with_no_words[entry] += 1;
         }
         if column == DONE && call.diagonal().contains(&0) {
             self.with_zero[entry] += 1;
@@ -121,14 +125,14 @@ impl Tally {
     pub fn print(&self) {
         print!("{:16} {:>6}", "", "done");
         (1..=LAST_REFUSAL).for_each(|number| print!(" {number:>5}"));
-        println!(" rejected  not looked at  0 in D  beyond");
+        println!(" rejected  with no words  0 in D  beyond");
         for entry in Entry::ALL {
             let counts = &self.counts[entry as usize];
             print!("{:16} {:>6}", format!("{entry:?}"), counts[DONE]);
             counts[1..=LAST_REFUSAL].iter().for_each(|count| print!(" {count:>5}"));
-            let [passed_over, with_zero, with_beyond] =
-                [&self.passed_over, &self.with_zero, &self.with_beyond].map(|counts| counts[entry as usize]);
-            println!(" {:>8} {passed_over:>14} {with_zero:>7} {with_beyond:>7}", counts[REJECTED]);
+            let [with_no_words, with_zero, with_beyond] =
+                [&self.with_no_words, &self.with_zero, &self.with_beyond].map(|counts| counts[entry as usize]);
+            println!(" {:>8} {with_no_words:>14} {with_zero:>7} {with_beyond:>7}", counts[REJECTED]);
         }
         println!("extractions by level: {:?}", self.levels);
         for (of, pushes) in [(format!("2 to {FEW_RECORDS}"), self.pushes[0]), (format!("over {FEW_RECORDS}"), self.pushes[1])] {
@@ -138,8 +142,8 @@ impl Tally {
     }
 
     /// Every function was done, also with a zero in the diagonal and with any numbers beyond what the set uses, and gave each refusal that it
-    /// can, that of the kept values often, but not that of a file that is too long, and no other; verification rejected too; and numbers that
-    /// a function does not look at were not looked at.
+    /// can, that of the kept values often, but not that of a file that is too long, and no other; verification rejected too; and a function was
+    /// done with numbers that are no words if there are places where it takes any, and only then.
     pub fn assert_all_reached(&self) {
         for entry in Entry::ALL {
             let mut expected = vec![DONE];
@@ -150,14 +154,14 @@ impl Tally {
             let counts = &self.counts[entry as usize];
             let reached: Vec<usize> = (0..counts.len()).filter(|&column| counts[column] > 0).collect();
             assert_eq!(reached, expected, "{entry:?}: 0 is done, {REJECTED} rejected");
-            let looks_at_all = match entry {
-                Entry::Power => false,
+            let wants_words_alone = match entry {
+                Entry::Product | Entry::Power => false,
                 entry if entry.is_of_field() => true,
                 Entry::Validate | Entry::ExchangeDiagonal | Entry::ExchangeHeight | Entry::Sizes => true,
                 Entry::Permute | Entry::Unpermute | Entry::Verify => true,
                 _ => false,
             };
-            assert_eq!(self.passed_over[entry as usize] == 0, looks_at_all, "{entry:?}");
+            assert_eq!(self.with_no_words[entry as usize] == 0, wants_words_alone, "{entry:?}");
             assert!(entry.is_of_field() || self.with_zero[entry as usize] >= 100, "{entry:?}");
             assert!(!entry.takes_set() || self.with_beyond[entry as usize] >= 100, "{entry:?}");
             assert!(!entry.takes_set() || counts[BAD_KEPT_VALUES] >= 1_000, "{entry:?}");

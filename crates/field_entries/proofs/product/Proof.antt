@@ -1,38 +1,16 @@
-use mathlib.Core.Path.{sym, ap, _∙_}
+use mathlib.Core.Path.{ap}
 use mathlib.Core.List.{[], _∷_}
 use Prim.Native.Nat.{ℕ}
 use native.Mathlib.Omega.{arith}
 use borrow.Author.Needs.{needs}
-use Rattle.modular.specs.Arithmetic.{mul}
-use Rattle.fields.specs.Prime.{prime}
 use Rattle.refusals.specs.Table.{done}
-use Rattle.refusals.proofs.Table.{all-passed}
 use Rattle.field_entries.specs.Arithmetic.{replyOf, productReply}
-use Rattle.field_entries.proofs.Operands.{first-refused, second-refused, both-passed}
 use Rattle.field_entries.proofs.product.Statement.{statement}
 use Rattle.field_entries.proofs.product.Tie as tie
 
 returns : tie.Need-returns
 unfolding replyOf productReply
-returns c =
-    let a = c .before .before .args in
-    sym (first-refused prime (a .a) (a .b) [] (mul prime (a .a) (a .b) ∷ []) (rw (c .before .order .ensures) at (c .if1 .taken)))
-
-returns-2 : tie.Need-returns-2
-unfolding replyOf productReply
-returns-2 c =
-    let a = c .before .before .before .args in
-    sym (second-refused prime (a .a) (a .b) [] (mul prime (a .a) (a .b) ∷ []) (omega arith) (rw (c .before .before .order .ensures) at (c .if2 .taken)))
-
-product-requires : tie.Need-product-requires
-product-requires c κs = search needs
-
-returns-3 : tie.Need-returns-3
-unfolding replyOf productReply
-returns-3 c =
-    let a = c .before .before .before .before .args in
-    ap (λ (x : ℕ). done (x ∷ [])) (c .product .ensures)
-    ∙ sym (both-passed prime (a .a) (a .b) [] (mul prime (a .a) (a .b) ∷ []) (omega arith) (omega arith) ∙ all-passed (mul prime (a .a) (a .b) ∷ []))
+returns c = ap (λ (x : ℕ). done (x ∷ [])) (omega arith)
 
 pub product-spec : {M : Type 1} → statement M
-product-spec = tie.close (tie.spec (λ c κs. search needs) returns returns-2 product-requires returns-3)
+product-spec = tie.close (tie.spec (λ c κs. search needs) returns)

@@ -4,10 +4,10 @@ use Rattle.vectors.proofs.field_section.edges_after.Statement.{statemen
 use Rattle.vectors.proofs.field_section.edges_after.Tie as tie
 
 abbrev Inv-loop : tie.InvT-loop
-Inv-loop entry a j₀ j = j ≤ 8
+Inv-loop entry a j₀ j = j ≤ 12
 
 abbrev μ-loop : tie.MeasureT-loop
-μ-loop entry a j₀ j = 8 - j
+μ-loop entry a j₀ j = 12 - j
 
 pub edges-after-spec : {M : Type 1} → statement M
 edges-after-spec =

@@ -4,10 +4,10 @@ use Rattle.vectors.proofs.field_section.edges_of_two.Statement.{stateme
 use Rattle.vectors.proofs.field_section.edges_of_two.Tie as tie
 
 abbrev Inv-loop : tie.InvT-loop
-Inv-loop entry i₀ i = i ≤ 8
+Inv-loop entry i₀ i = i ≤ 12
 
 abbrev μ-loop : tie.MeasureT-loop
-μ-loop entry i₀ i = 8 - i
+μ-loop entry i₀ i = 12 - i
 
 pub edges-of-two-spec : {M : Type 1} → statement M
 edges-of-two-spec =
