@@ -3,10 +3,10 @@ use mathlib.Core.Path.{_≡_, refl, sym, ap, _∙_}
 use mathlib.Core.List.{List, [], _∷_}
 use Prim.Native.Nat.{ℕ, _*_, _^_, _%_, _<_}
 use native.Mathlib.Nat.{mod-lt}
-use Rattle.modular.specs.Arithmetic.{allWords, mul, pow}
+use Rattle.modular.specs.Arithmetic.{mul, pow}
 use Rattle.modular.specs.Congruence.{_≈⟨_⟩_}
 use Rattle.modular.proofs.Congruence.{mod≈, mul≈, pow≈, rest≈, sym≈}
-use Rattle.refusals.specs.Table.{Reply, done, reply, notWords}
+use Rattle.refusals.specs.Table.{done, reply, notWords}
 use Rattle.refusals.proofs.Table.{all-passed, words-applied, words-passed}
 use Rattle.field_entries.specs.Arithmetic.{productReply, powerReply}
 use Rattle.field_entries.specs.Statements.{IsWordOf, AsBefore, OfAnyNumbers, AnyNumbers}

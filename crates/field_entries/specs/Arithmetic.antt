@@ -1,5 +1,5 @@
 -- What the field's entries reply, for any numbers (Rules 1, 7.1, 8.8).
-use mathlib.Core.List.{List, [], _∷_}
+use mathlib.Core.List.{[], _∷_}
 use Prim.Native.Nat.{ℕ, suc, _%_}
 use lib.Dec.{eqb}
 use Rattle.modular.specs.Arithmetic.{add, sub, mul, pow, inverse, seventhRoot}
