@@ -514,13 +514,18 @@ mod tests {
     /// A product and a power are written whatever is handed in.
     #[test]
     fn products_and_powers_refuse_nothing() {
-        for numbers in [[P, 1], [1, P], [P, P], [u64::MAX, u64::MAX]] {
-            let [a, b] = numbers;
+        for (a, b, of_both, raised) in [
+            (P, 1, 0, 0),
+            (1, P, 0, 1),
+            (P, P, 0, 0),
+            (P, 0, 0, 1),
+            (P + 2, 7, 14, 128),
+            (u64::MAX, 2, 8589934588, P - 12884901885),
+        ] {
             let (mut product, mut power) = (KEPT, KEPT);
             // SAFETY: each result is one number that nothing else refers to.
             let returned = unsafe { [sys::opening_tree_product(a, b, &mut product), sys::opening_tree_power(a, b, &mut power)] };
-            assert_eq!(returned, [0, 0]);
-            assert!(product < P && power < P, "{numbers:?}: {product}, {power}");
+            assert_eq!((returned, product, power), ([0, 0], of_both, raised), "{a}, {b}");
         }
     }
 

@@ -29,7 +29,8 @@ pub record AsBefore (p : ℕ) (operands : List ℕ) (former given : Reply) : Typ
   pub words : allWords p operands ≡ true → given ≡ former
   pub others : allWords p operands ≡ false → former ≡ refused 12
 
--- Congruent numbers have the same residue. The exponent is no such number: it counts as it is.
+-- For any numbers: the word that is meant; the same for numbers with the same residues, where an exponent counts as it is; and the same as
+-- before for words.
 pub record OfAnyNumbers (p : ℕ) : Type 0 where
   pub product : (a b : ℕ) → IsWordOf p (a * b) (productReply p a b)
   pub power : (a e : ℕ) → IsWordOf p (a ^ e) (powerReply p a e)
@@ -38,6 +39,6 @@ pub record OfAnyNumbers (p : ℕ) : Type 0 where
   pub productAsBefore : (a b : ℕ) → AsBefore p (a ∷ b ∷ []) (formerProduct p a b) (productReply p a b)
   pub powerAsBefore : (a e : ℕ) → AsBefore p (a ∷ []) (formerPower p a e) (powerReply p a e)
 
--- So it is for every p, prime or not.
+-- So it is for every p above 0, prime or not.
 abbrev pub AnyNumbers : Type 0
 AnyNumbers = (p : ℕ) → 0 < p → OfAnyNumbers p

@@ -10,9 +10,10 @@ const SEEDED_LINES: u64 = 2000;
 
 const UNREDUCED_LINES: u64 = 3000;
 
-// one operand in sixteen has its high bits set, and one in two
+// one operand in sixteen has its high bits set
 const SEEDED_MASK: u64 = 15;
 
+// every other one has
 const UNREDUCED_MASK: u64 = 1;
 
 // the high 32 bits
