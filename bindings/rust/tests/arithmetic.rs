@@ -23,7 +23,7 @@ const ENTRIES: [(&str, Entry); 6] = [
     ("seventh_root", Entry::SeventhRoot),
 ];
 /// What products and powers are shown on.
-const EDGES: [u64; 11] = [0, 1, P - 1, P, P + 1, P.wrapping_add(P), (1 << 32) - 1, (1 << 32) + 1, 1 << 63, u64::MAX, 1 << 32];
+const EDGES: [u64; 11] = [0, 1, P - 1, P, P + 1, P.wrapping_add(P), (1 << 32) - 1, 1 << 32, (1 << 32) + 1, 1 << 63, u64::MAX];
 const EXPONENTS: [u64; 6] = [0, 1, P - 2, P - 1, P, u64::MAX];
 const HIGH_HALF: u64 = u64::MAX << 32;
 
@@ -74,25 +74,18 @@ fn drawn(entry: Entry, seed: u64, count: usize, high: u64) -> Vec<Case> {
 /// The section's cases, each with what the reference says.
 fn cases(section: &str) -> Vec<(Case, String)> {
     let (mut cases, mut lines, mut seeds) = (vec![], section.lines(), 0..);
+    let number = |part: &str| part.parse::<u64>().expect("a number");
     while let Some(line) = lines.next() {
         let parts: Vec<&str> = line.split(' ').collect();
-        let number = |part: &str| part.parse().expect("a number");
         let entry = entry(parts[0]);
-        match parts[1..] {
-            [kind @ ("seeded" | "unreduced"), count] => {
-                let high = if kind == "seeded" { 16 } else { 2 };
-                let drawn = drawn(entry, seeds.next().expect("a seed"), number(count) as usize, high);
-                cases.extend(drawn.into_iter().map(|case| (case, lines.next().expect("a line for each").to_string())));
-            }
-            [ref operands @ .., "=", word] => {
-                let operands = operands.iter().map(|operand| number(operand)).collect();
-                cases.push((Case { entry, operands }, word.to_string()));
-            }
-            [ref operands @ .., "refused", refusal] => {
-                let operands = operands.iter().map(|operand| number(operand)).collect();
-                cases.push((Case { entry, operands }, format!("refused {refusal}")));
-            }
-            _ => panic!("no line of the section: {line}"),
+        if let [_, kind @ ("seeded" | "unreduced"), count] = parts[..] {
+            let high = if kind == "seeded" { 16 } else { 2 };
+            let drawn = drawn(entry, seeds.next().expect("a seed"), number(count) as usize, high);
+            cases.extend(drawn.into_iter().map(|case| (case, lines.next().expect("a line for each").to_string())));
+        } else {
+            let (operands, said) = parts[1..].split_at(parts.len() - 3);
+            let operands = operands.iter().map(|operand| number(operand)).collect();
+            cases.push((Case { entry, operands }, said.join(" ").trim_start_matches("= ").to_string()));
         }
     }
     cases
