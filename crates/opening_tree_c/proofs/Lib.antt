@@ -1,3 +1,3 @@
--- The laws of calls through a set that is handed in, and of the numbers that verdicts, products and powers return.
+-- The laws of calls through a set that is handed in, and of a verdict's number.
 pub mod Calls
 pub mod Statements

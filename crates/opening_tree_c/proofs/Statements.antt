@@ -1,5 +1,4 @@
--- The number 0 is returned for an opening that is accepted, and for nothing else: the number of every refusal is above 0. For a product and a
--- power it is returned always.
+-- The number 0 is returned for an opening that is accepted, and for nothing else: the number of every refusal is above 0.
 use mathlib.Core.Path.{_≡_, refl, sym, ap, _∙_}
 use mathlib.Core.Logic.{_≢_}
 use mathlib.Core.Bool.{Bool, true, false, cond}
@@ -14,9 +13,8 @@ use Rattle.merkle.specs.Openings.{accepts}
 use Rattle.trees.specs.SetTrees.{treeOf}
 use Rattle.tree_entries.specs.Trees.{verifyRefusals, verifyReply}
 use Rattle.tree_entries.proofs.AcceptedTrees.{verify-numbered}
-use Rattle.field_entries.specs.Arithmetic.{productReply, powerReply}
-use Rattle.replies.specs.Replies.{numberOf, valueAt, verdictNumber}
-use Rattle.opening_tree_c.specs.Statements.{Yes, returned, OnlyYes, AlwaysGiven}
+use Rattle.replies.specs.Replies.{verdictNumber}
+use Rattle.opening_tree_c.specs.Statements.{Yes, returned, OnlyYes}
 
 -- 0 behind an entry's refusals: none applies, and the value is not 0
 zero-behind : (refusals : List Refusal) → Numbered refusals → (x : ℕ) → verdictNumber (reply refusals (x ∷ [])) ≡ 0 → (firstRefusal refusals ≡ 0) × (x ≢ 0)
@@ -56,7 +54,3 @@ module _ (xs top : List ℕ) (q : ℕ) (leaf siblings : List ℕ) where
 
 pub only-yes : OnlyYes
 only-yes xs top q leaf siblings = (is-yes xs top q leaf siblings, is-zero xs top q leaf siblings)
-
-pub always-given : AlwaysGiven
-unfolding numberOf valueAt productReply powerReply
-always-given a b = (record { number = refl; written = λ old. refl }, record { number = refl; written = λ old. refl })

@@ -1,3 +1,3 @@
--- What the functions for C return and leave (Rules 2.8, 8.6), and what is claimed of a verdict, of products and of powers.
+-- What the functions for C return and leave (Rules 2.8, 8.6), and what is claimed of a verdict.
 pub mod Exports
 pub mod Statements
