@@ -1,4 +1,6 @@
 // The entry that generates round constants.
+#![tactic(auto)]
+
 ghost use Rattle.std.specs.Prelude.{◌≡◌};
 ghost use Rattle.fields.specs.Prime.{prime, prime_bits};
 ghost use Rattle.refusals.specs.Table.{first_refusal};

@@ -3,7 +3,7 @@ use harness::{answers, input, lists, output};
 use opening_tree::Outcome;
 
 // What a line asks for: t, R_F and R_P, how many steps may be made, the list's length, and how the list is printed.
-#[derive(Drop)]
+#[derive(Clone, Copy)]
 struct Asked {
     width: u64,
     full_rounds: u64,

@@ -1,5 +1,7 @@
 // Prints what round constants are generated, for many widths, rounds and numbers of steps. The module docstring of
 // reference/constant_vectors.py says what is printed; the reference prints what it must be.
+#![tactic(auto)]
+
 mod constants;
 
 use libc::STDIN_FILENO;

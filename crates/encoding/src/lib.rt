@@ -1,4 +1,6 @@
 // Numbers and bytes: the number of bytes, the lowest first, and numbers as text.
+#![tactic(auto)]
+
 ghost use Rattle.std.specs.Prelude.{◌≡◌, ◌+◌, ◌%◌, ◌^◌, ◌≤◌, ◌<◌, length, take};
 ghost use Rattle.bytes.specs.Numbers.{little_endian, decimal};
 ghost use Rattle.merkle.specs.Lists.{put};

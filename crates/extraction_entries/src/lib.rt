@@ -1,4 +1,6 @@
 // The extraction of a collision from two leaves that are both accepted at one place, under a set that is handed in.
+#![tactic(auto)]
+
 ghost use Rattle.std.specs.Prelude.{◌≡◌, not, ◌&&◌, [], ◌∷◌, ◌++◌, ℕ};
 ghost use Rattle.modular.specs.Arithmetic.{all_words};
 ghost use Rattle.refusals.specs.Table.{refusal, first_refusal};
@@ -13,7 +15,7 @@ use tree_entries::Verdict;
 use trees::sets;
 
 // The level of the collision, or the number of the refusal.
-#[derive(Drop)]
+#[derive(Clone, Copy)]
 pub enum Extraction {
     Level(u64),
     Refused(u8),

@@ -1,4 +1,6 @@
 // The field of p = 2^64 - 2^32 + 1 on words, the numbers below p (Rules 1). The fast path's numbers are in `lazy`.
+#![tactic(auto)]
+
 pub mod lazy;
 pub mod parts;
 

@@ -1,10 +1,12 @@
 // The field's entries, for any numbers of 64 bits.
+#![tactic(auto)]
+
 ghost use Rattle.std.specs.Prelude.{◌≡◌};
 ghost use Rattle.fields.specs.Prime.{prime};
 ghost use Rattle.field_entries.specs.Arithmetic.{reply_of, sum_reply, difference_reply, product_reply, power_reply, inverse_reply, seventh_root_reply};
 
 // A word, or the number of the refusal.
-#[derive(Drop)]
+#[derive(Clone, Copy)]
 pub enum Answer {
     Word(u64),
     Refused(u8),

@@ -1,4 +1,6 @@
 // The field of the prime in use, by which the other crates reach a core. Another core is chosen here and in `permutations`, and nowhere else.
+#![tactic(auto)]
+
 ghost use Rattle.std.specs.Prelude.{◌≡◌, ◌+◌, ◌*◌, ◌-◌, ◌%◌, ◌<◌};
 ghost use Rattle.modular.specs.Arithmetic.{add, sub, mul, pow, inverse, seventh_root};
 ghost use Rattle.modular.specs.Congruence.{◌≈⟨◌⟩◌};

@@ -1,4 +1,6 @@
 // The entry that makes a leaf from a file.
+#![tactic(auto)]
+
 ghost use Rattle.std.specs.Prelude.{◌≡◌};
 ghost use Rattle.refusals.specs.Table.{first_refusal};
 ghost use Rattle.state_entries.specs.Permutation.{outcome_reply};

@@ -6,7 +6,7 @@ use opening_tree::Outcome;
 use parameters::ParameterSet;
 
 // What a line has before its contents: a set, and the length of a leaf's buffer.
-#[derive(Drop)]
+#[derive(Clone, Copy)]
 struct Asked {
     numbers: Numbers,
     set: ParameterSet,

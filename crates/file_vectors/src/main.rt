@@ -1,5 +1,7 @@
 // Prints what the leaf of a file is, for files of many lengths under many sets. The module docstring of reference/file_vectors.py says
 // what is printed; the reference prints what it must be.
+#![tactic(auto)]
+
 mod contents;
 mod files;
 

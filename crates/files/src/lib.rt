@@ -1,4 +1,6 @@
 // The leaf of a file (Rules 7.7 to 7.10).
+#![tactic(auto)]
+
 mod message;
 
 ghost use Rattle.std.specs.Prelude.{◌≡◌, [], ◌∷◌, ◌++◌, ◌+◌, ◌*◌, ◌/◌, ◌^◌, ◌≤◌, ◌<◌, length, take, drop};

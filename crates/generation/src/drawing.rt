@@ -7,7 +7,7 @@ ghost use Rattle.generation.specs.Drawing.{Gathered, Ended, words_of, filled};
 use crate::registers;
 
 // A register, and the new bits before it that are not used yet: `left` pairs, the first bit the lowest.
-#[derive(Drop)]
+#[derive(Clone, Copy)]
 pub struct Stream {
     pub low: u64,
     pub high: u64,
@@ -16,7 +16,7 @@ pub struct Stream {
 }
 
 // A number that is gathered, of so many bits, and what is left: the stream, and the pairs that may still be used.
-#[derive(Drop)]
+#[derive(Clone, Copy)]
 pub struct Number {
     pub low: u64,
     pub high: u64,

@@ -1,4 +1,6 @@
 // The generator of round constants (Rules 7.12 to 7.14): a register, sixteen steps at a time, and the words that are drawn from it.
+#![tactic(auto)]
+
 mod drawing;
 mod registers;
 

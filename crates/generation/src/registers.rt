@@ -5,7 +5,7 @@ ghost use Rattle.grain.specs.Register.{highest_first, register, new_bits, after_
 ghost use Rattle.generation.specs.Registers.{value, Holds};
 
 // Bits 0 to 63, and bits 64 to 79.
-#[derive(Drop)]
+#[derive(Clone, Copy)]
 pub struct Register {
     pub low: u64,
     pub high: u64,

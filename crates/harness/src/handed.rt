@@ -3,7 +3,7 @@ use crate::{input, lists, output};
 use parameters::{ParameterSet, Validation};
 
 // A line's five numbers, and where the number after them begins.
-#[derive(Drop)]
+#[derive(Clone, Copy)]
 pub struct Numbers {
     pub width: u64,
     pub node_size: u64,
@@ -38,7 +38,7 @@ pub fn print_numbers(numbers: Numbers) {
 }
 
 // What validation answers for a line's set, and where the next line begins.
-#[derive(Drop)]
+#[derive(Clone, Copy)]
 pub struct Validated {
     pub validation: Validation,
     pub next: usize,
@@ -82,7 +82,7 @@ pub fn digest_of(set: ParameterSet) -> u64 {
 }
 
 // What a set keeps of D.
-#[derive(Drop)]
+#[derive(Clone, Copy)]
 struct Kept {
     inverses: [u64; 12],
     total_inverse: u64,
@@ -113,7 +113,7 @@ fn kept_values(width: u64, diagonal: &[u64], beyond: u64) -> Kept {
 }
 
 // A line's set, whether it is one or not, and where the number after it begins.
-#[derive(Drop)]
+#[derive(Clone, Copy)]
 pub struct HandedSet {
     pub set: ParameterSet,
     pub next: usize,

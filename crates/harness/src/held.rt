@@ -4,7 +4,7 @@ use parameters::ParameterSet;
 use std::num::wrapping_sub_u64;
 
 // Drawn words in a buffer.
-#[derive(Drop)]
+#[derive(Clone, Copy)]
 pub struct Held {
     pub words: [u64; 1024],
     pub count: usize,

@@ -1,7 +1,7 @@
 // Decimal numbers of the program's input. One byte that is no digit stands after each number.
 use std::num::wrapping_add_u64;
 
-#[derive(Drop)]
+#[derive(Clone, Copy)]
 pub struct Read {
     pub value: u64,
     // where the next number begins

@@ -1,5 +1,7 @@
 // What the programs `vectors`, `tree_vectors`, `history_vectors`, `file_vectors` and `set_vectors` read and write by: lines of text, the
 // numbers of their input, drawn numbers, lists of them, sets, answers, and calls of the entries of trees on what a line of the input holds.
+#![tactic(auto)]
+
 pub mod answers;
 pub mod entries;
 pub mod generator;

@@ -5,7 +5,7 @@ use crate::{generator, input, output};
 use std::num::{wrapping_add_u64, wrapping_sub_u64};
 
 // How many of a buffer's places the list has, and where the number after it begins.
-#[derive(Drop)]
+#[derive(Clone, Copy)]
 pub struct Taken {
     pub count: usize,
     pub next: usize,

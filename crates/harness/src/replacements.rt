@@ -5,7 +5,7 @@ use parameters::ParameterSet;
 use std::num::wrapping_sub_u64;
 
 // A replacement's numbers but for its leaf, and where the leaf begins.
-#[derive(Drop)]
+#[derive(Clone, Copy)]
 struct Call {
     fault: u64,
     value: u64,

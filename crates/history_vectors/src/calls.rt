@@ -4,7 +4,7 @@ use opening_tree::Changed;
 use parameters::ParameterSet;
 
 // What a call answered, and where the next one begins.
-#[derive(Drop)]
+#[derive(Clone, Copy)]
 struct Called {
     changed: Changed,
     next: usize,

@@ -1,5 +1,7 @@
 // Prints what lists of replacements and pushes on built trees answer and leave. The module docstring of reference/history_vectors.py
 // says what is printed; the reference prints what it must be.
+#![tactic(auto)]
+
 mod calls;
 mod places;
 mod trees;

@@ -5,7 +5,7 @@ use parameters::ParameterSet;
 use std::num::wrapping_sub_u64;
 
 // A tree's sizes, the number of calls, and where the first call begins.
-#[derive(Drop)]
+#[derive(Clone, Copy)]
 struct Sizes {
     store: usize,
     siblings: usize,

@@ -1,4 +1,6 @@
 // The inverse permutation on words, the permutation's last step undone first.
+#![tactic(auto)]
+
 mod external;
 mod full;
 mod internal;

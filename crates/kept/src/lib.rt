@@ -1,4 +1,6 @@
 // What a set keeps for the inverse permutation (Rules 2.9): made with one inversion, and tested with none.
+#![tactic(auto)]
+
 ghost use Rattle.std.specs.Prelude.{◌≡◌, ◌≢◌, ◌+◌, ◌*◌, ◌%◌, ◌<◌, ◌≤◌, eqb, length};
 ghost use Rattle.modular.specs.Arithmetic.{inverse};
 ghost use Rattle.modular.specs.Congruence.{◌≈⟨◌⟩◌};
@@ -11,7 +13,7 @@ ghost use Rattle.kept.specs.Kept.{padded, kept_of, fits};
 ghost use Rattle.kept.specs.Products.{or_one, product_of, Before, ProductsOf};
 
 // The inverses of the words of D, 0 for a 0, and that of 1 plus their sum, 0 where D has a 0.
-#[derive(Drop)]
+#[derive(Clone, Copy)]
 pub struct Kept {
     pub inverses: [u64; 12],
     pub total_inverse: u64,
@@ -19,7 +21,7 @@ pub struct Kept {
 
 // Products of the words of D that are not 0, as lazy numbers: before each place of those before it, of all, and of all times 1 plus the
 // inverses.
-#[derive(Drop)]
+#[derive(Clone, Copy)]
 pub struct Products {
     pub before: [u64; 12],
     pub all: u64,

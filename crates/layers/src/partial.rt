@@ -13,7 +13,7 @@ use field::lazy;
 use std::num::wrapping_add_u64;
 
 // A sum that passes 2^64: high * 2^64 + low.
-#[derive(Drop)]
+#[derive(Clone, Copy)]
 struct Wide {
     high: u64,
     low: u64,

@@ -1,5 +1,7 @@
 // What the benchmark calls beside the library's own C functions: a permutation and a compression without validation, the halves of M_E, and the
 // passes of a push over its records. They require what a validated set gives, and the halves numbers as small as the layer hands them.
+#![tactic(auto)]
+
 pub mod pushed;
 
 ghost use Rattle.std.specs.Prelude.{◌≡◌, ◌≤◌, length};

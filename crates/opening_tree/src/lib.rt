@@ -1,5 +1,7 @@
 // The library's public entries, each defined in a crate of its own kind. None presumes anything of its caller: each answers the first of its
 // refusals that applies, in the order of Rules 8.8 and with every buffer as it was, or does the work.
+#![tactic(auto)]
+
 pub use change_entries::{Changed, replace};
 pub use constant_entries::generate;
 pub use extraction_entries::{Extraction, extract};

@@ -1,4 +1,6 @@
 // The parameter set and its validation (Rules 2).
+#![tactic(auto)]
+
 ghost use Rattle.std.specs.Prelude.{◌≡◌, true, false, [], ◌∷◌, ◌≤◌, length, take, get_or};
 ghost use Rattle.modular.specs.Arithmetic.{all_words};
 ghost use Rattle.fields.specs.Prime.{prime};
@@ -9,7 +11,7 @@ ghost use Rattle.kept.specs.Kept.{padded};
 ghost use Rattle.parameters.specs.ParameterSet.{held, no_set, turned_down, validation, with_diagonal, with_height, held_refusals, set_refusals};
 ghost use Rattle.parameters.specs.Refusals.{bad_width, bad_node_size, bad_full_rounds, bad_partial_rounds, bad_height, constant_count, bad_lengths, bad_diagonal, number_refusals, shape_refusals, word_refusals, kept_refusals, list_refusals, used_refusals};
 
-#[derive(Drop)]
+#[derive(Clone, Copy)]
 pub struct ParameterSet {
     pub width: u64,
     pub node_size: u64,
@@ -23,7 +25,7 @@ pub struct ParameterSet {
 }
 
 // 0 and the set, or the number of its first refusal and zeros. (An enum cannot hold the set's arrays.)
-#[derive(Drop)]
+#[derive(Clone, Copy)]
 pub struct Validation {
     pub number: u8,
     pub parameters: ParameterSet,

@@ -1,5 +1,7 @@
 // Passes over the records of a push: of a slice of records, or of a list of numbers, seven for each. Every function presumes what the push has
 // tested before.
+#![tactic(auto)]
+
 ghost use Rattle.std.specs.Prelude.{◌≡◌, ◌/◌, length, replicate};
 ghost use Rattle.repeats.specs.Maps.{map_words};
 ghost use Rattle.records.specs.Listed.{listed};

@@ -1,4 +1,6 @@
 // The path from a leaf to the root, by a place's siblings; and where two paths collide.
+#![tactic(auto)]
+
 pub mod collisions;
 pub mod comparison;
 

@@ -1,4 +1,6 @@
 // Poseidon2's permutation and compression of the numbers of slices. The width is looked at once a permutation.
+#![tactic(auto)]
+
 pub mod halves;
 mod rounds;
 

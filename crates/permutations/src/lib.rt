@@ -1,4 +1,6 @@
 // Poseidon2 modulo the prime in use, by which the other crates reach a core: one call a compression, and none a word.
+#![tactic(auto)]
+
 ghost use Rattle.std.specs.Prelude.{◌≡◌, ◌+◌, ◌*◌, ◌≤◌, length, take, drop};
 ghost use Rattle.std.proofs.Math.Seq.{paste};
 ghost use Rattle.poseidon2.specs.Layers.{sums, m4_blocks};

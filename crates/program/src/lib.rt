@@ -1,4 +1,6 @@
 // The root program (Rules 7.5, 7.6), from the bytes that it reads to those that it writes.
+#![tactic(auto)]
+
 ghost use Rattle.std.specs.Prelude.{◌≡◌, ◌+◌, ◌/◌, ◌≤◌, ◌<◌, min, length, take, drop};
 ghost use Rattle.parameters.specs.Refusals.{constant_count};
 ghost use Rattle.bytes.specs.Numbers.{numbers_of};

@@ -1,4 +1,6 @@
 // The entries that push a list of replacement records.
+#![tactic(auto)]
+
 mod ends;
 pub mod pushing;
 

@@ -1,3 +1,5 @@
 // What a pass of a push does with each record, and the levels. Every function presumes what the push has tested before.
+#![tactic(auto)]
+
 pub mod levels;
 pub mod steps;

@@ -1,4 +1,6 @@
 // Opening readers: views over the sibling words of an opening, and a level's part of them.
+#![tactic(auto)]
+
 pub mod copies;
 mod levels;
 pub mod reading;

@@ -6,14 +6,14 @@ use crate::levels;
 use parameters::ParameterSet;
 
 // A view over the sibling words of an opening.
-#[derive(Drop)]
+#[derive(Clone, Copy)]
 pub struct OpeningReader<'a> {
     pub siblings: &'a [u64],
 }
 
 // The number 0 and a level's words, or the number of the refusal and no words.
 // (An enum cannot hold a reference.)
-#[derive(Drop)]
+#[derive(Clone, Copy)]
 pub struct Part<'a> {
     pub words: &'a [u64],
     pub number: u8,

@@ -2,7 +2,7 @@
 ghost use Rattle.std.specs.Prelude.{◌≡◌};
 ghost use Rattle.records.specs.Tests.{ranked};
 
-#[derive(Drop)]
+#[derive(Clone, Copy)]
 pub struct Tally {
     // the number of the first of refusals 1 to 10 that applies, or 0; with 0, `places` is k^h
     pub number: u8,

@@ -1,1 +1,3 @@
 // Mathematics only: refusals and what an entry replies. The definitions stand in specs/.
+
+#![tactic(auto)]

@@ -1,4 +1,6 @@
 // What an entry answers, as numbers: the one that is returned, and the one that a result is written to.
+#![tactic(auto)]
+
 ghost use Rattle.std.specs.Prelude.{◌≡◌};
 ghost use Rattle.field_entries.specs.Arithmetic.{reply_of};
 ghost use Rattle.state_entries.specs.Permutation.{outcome_reply};

@@ -1,4 +1,6 @@
 // The root program: reads a set and leaves from standard input, and writes the root or the refusal to standard output.
+#![tactic(auto)]
+
 use libc::{STDIN_FILENO, STDOUT_FILENO};
 
 fn main() {

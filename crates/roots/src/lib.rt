@@ -1,5 +1,7 @@
 // Seventh roots by one addition chain: in binary the exponent is 100 ten times, 0, 110 ten times and 111. A root alone waits for each
 // of its products in turn; the roots of a state are taken in step, every word's product before the next one.
+#![tactic(auto)]
+
 mod step;
 
 ghost use Rattle.std.specs.Prelude.{◌≡◌, ◌*◌, ◌%◌, ◌^◌, ◌<◌};

@@ -1,4 +1,6 @@
 // Sets as arrays of 238 numbers, as C holds them (Rules 2.8).
+#![tactic(auto)]
+
 ghost use Rattle.std.specs.Prelude.{◌≡◌, ◌+◌, ◌≤◌, length};
 ghost use Rattle.merkle.specs.Lists.{part, put};
 ghost use Rattle.set_arrays.specs.Arrays.{set_of, array_of};

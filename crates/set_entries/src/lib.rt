@@ -1,4 +1,6 @@
 // The entries that exchange a part of a set: D, or the height (Rules 2.11).
+#![tactic(auto)]
+
 ghost use Rattle.std.specs.Prelude.{◌≡◌};
 ghost use Rattle.set_entries.specs.Exchange.{diagonal_exchanged, height_exchanged};
 

@@ -1,4 +1,6 @@
 // The entries of parameter sets and of the permutation.
+#![tactic(auto)]
+
 pub mod outcome;
 pub mod sets;
 pub mod states;

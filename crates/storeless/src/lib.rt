@@ -1,4 +1,6 @@
 // The root, from the leaves alone (Rules 7.4).
+#![tactic(auto)]
+
 ghost use Rattle.std.specs.Prelude.{◌≡◌, ◌++◌, ◌+◌, ◌*◌, ◌^◌, ◌≤◌, length, take};
 ghost use Rattle.merkle.specs.Lists.{part};
 ghost use Rattle.merkle.specs.Storeless.{node_of, row_of, storeless_root};

@@ -1,4 +1,6 @@
 // The entries of trees: building and roots, openings and their verification.
+#![tactic(auto)]
+
 pub mod building;
 pub mod openings;
 pub mod sizing;

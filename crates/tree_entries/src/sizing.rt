@@ -6,14 +6,14 @@ use parameters::ParameterSet;
 use trees::sets;
 
 // In numbers.
-#[derive(Drop)]
+#[derive(Clone, Copy)]
 pub struct TreeSizes {
     pub leaves: u64,
     pub store: u64,
     pub opening: u64,
 }
 
-#[derive(Drop)]
+#[derive(Clone, Copy)]
 pub enum Sizing {
     Of(TreeSizes),
     Refused(u8),

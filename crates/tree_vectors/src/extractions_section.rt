@@ -4,7 +4,7 @@ use opening_tree::Extraction;
 use parameters::ParameterSet;
 
 // A list of the line, in its buffer.
-#[derive(Drop)]
+#[derive(Clone, Copy)]
 struct Listed {
     words: [u64; 64],
     count: usize,

@@ -5,14 +5,14 @@ use parameters::ParameterSet;
 use std::num::wrapping_add_u64;
 
 // How many verdicts of some were either.
-#[derive(Drop)]
+#[derive(Clone, Copy)]
 struct Verdicts {
     accepted: u64,
     rejected: u64,
 }
 
 // The numbers of a tree's line after the leaves, and where the next line begins.
-#[derive(Drop)]
+#[derive(Clone, Copy)]
 struct Sizes {
     store: usize,
     siblings: usize,

@@ -1,4 +1,6 @@
 // The tree's work on slices, at the shape of a validated set. Every function presumes what validation and the tests of lengths give.
+#![tactic(auto)]
+
 pub mod building;
 pub mod nodes;
 pub mod openings;
@@ -12,7 +14,7 @@ pub use replacement::{replace, replace_from};
 pub use sizes::{leaf_count, store_size};
 
 // A set's numbers, as the tree uses them: the arity is the width over the node size, `half` half the full rounds.
-#[derive(Drop)]
+#[derive(Clone, Copy)]
 pub struct Dimensions {
     pub arity: usize,
     pub node_size: usize,

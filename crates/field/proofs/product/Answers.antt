@@ -1,0 +1,7 @@
+use Rattle.std.proofs.Common.{◌∙◌, rules}
+use Rattle.modular.specs.Arithmetic.{mul}
+use Rattle.field.proofs.product.Goals as goal
+
+pub returns : goal.returns
+unfolding mul
+returns c = c.residue.ensures ∙ c.product.ensures.same
