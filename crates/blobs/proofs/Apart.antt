@@ -4,8 +4,8 @@ use mathlib.Core.List.{List, [], ◌∷◌, ◌++◌, append_assoc}
 use Prim.Native.Nat.{ℕ, zero, suc, ◌+◌, ◌<◌}
 use native.Mathlib.Omega.{arith}
 use lib.ListN.{length, get_or, drop, replicate}
-use Rattle.bytes.specs.Numbers.{decimal}
-use Rattle.bytes.proofs.Decimal.{decimal_digits}
+use Rattle.octets.specs.Numbers.{decimal}
+use Rattle.octets.proofs.Decimal.{decimal_digits}
 use Rattle.blobs.specs.Blob.{blob_head, message, shortfall, padded_to}
 
 -- two lists that are equal have the same first number, and the same others

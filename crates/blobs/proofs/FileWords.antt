@@ -10,9 +10,9 @@ use lib.ListN.{length, get_or, take, drop, replicate, length-replicate, get_or-r
 use lib.Seq.{get_or-append-add}
 use Rattle.modular.specs.Arithmetic.{is_word, all_words}
 use Rattle.modular.proofs.Words.{words_append, words_by, words_at}
-use Rattle.bytes.specs.Numbers.{little_endian, numbers_of, decimal}
-use Rattle.bytes.proofs.Decimal.{decimal_bytes}
-use Rattle.bytes.proofs.LittleEndian.{same_bytes, length-numbers, number_at, numbers_below, numbers_apart}
+use Rattle.octets.specs.Numbers.{little_endian, numbers_of, decimal}
+use Rattle.octets.proofs.Decimal.{decimal_bytes}
+use Rattle.octets.proofs.LittleEndian.{same_bytes, length-numbers, number_at, numbers_below, numbers_apart}
 use Rattle.blobs.specs.Blob.{blob_word, blob_head, message, shortfall, padded_to, packed, file_words}
 use Rattle.blobs.specs.Statements.{Bytes}
 use Rattle.blobs.proofs.Padding.{padded_length}

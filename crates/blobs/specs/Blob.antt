@@ -1,6 +1,6 @@
 -- A file as a list of words (Rules 7.7 to 7.9), for any number of bytes a word and any rate, which is t - l.
 use Rattle.std.specs.Prelude.{List, [], ◌∷◌, ◌++◌, ℕ, ◌*◌, ◌-◌, ◌/◌, ◌%◌, length, replicate}
-use Rattle.bytes.specs.Numbers.{numbers_of, decimal}
+use Rattle.octets.specs.Numbers.{numbers_of, decimal}
 
 -- `blob` and a space: 62 6C 6F 62 20 in hexadecimal
 abbrev pub blob_word : List ℕ

@@ -7,7 +7,7 @@ use native.Mathlib.Omega.{arith}
 use lib.Dec.{lit<, lit≤}
 use lib.ListN.{take, get_or}
 use Rattle.modular.proofs.Powers.{pow-mul}
-use Rattle.bytes.specs.Numbers.{little_endian}
+use Rattle.octets.specs.Numbers.{little_endian}
 
 eight_bytes : (xs : List ℕ) → little_endian (take 8 xs)
     ≡ get_or xs 0 0 + 256 * (get_or xs 1 0 + 256 * (get_or xs 2 0 + 256 * (get_or xs 3 0 + 256 * (get_or xs 4 0 + 256 * (get_or xs 5 0 + 256 * (get_or xs 6 0 + 256 * get_or xs 7 0))))))

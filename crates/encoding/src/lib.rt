@@ -2,7 +2,7 @@
 #![tactic(auto)]
 
 ghost use Rattle.std.specs.Prelude.{◌≡◌, ◌+◌, ◌%◌, ◌^◌, ◌≤◌, ◌<◌, length, take};
-ghost use Rattle.bytes.specs.Numbers.{little_endian, decimal};
+ghost use Rattle.octets.specs.Numbers.{little_endian, decimal};
 ghost use Rattle.merkle.specs.Lists.{put};
 
 pub fn wide(byte: u8) -> u64

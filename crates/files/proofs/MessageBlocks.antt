@@ -11,8 +11,8 @@ use Rattle.modular.specs.Arithmetic.{add}
 use Rattle.poseidon2.specs.Statements.{Words, State}
 use Rattle.merkle.specs.Lists.{part, put}
 use Rattle.merkle.proofs.Lists.{length_part, put_whole}
-use Rattle.bytes.specs.Numbers.{little_endian, numbers_of}
-use Rattle.bytes.proofs.LittleEndian.{length-numbers, number_at}
+use Rattle.octets.specs.Numbers.{little_endian, numbers_of}
+use Rattle.octets.proofs.LittleEndian.{length-numbers, number_at}
 use Rattle.blobs.specs.Blob.{blob_head, message, file_words}
 use Rattle.blobs.specs.Absorption.{add_block, absorb, file_leaf}
 use Rattle.blobs.proofs.FileWords.{block_count, words_count, word_is}

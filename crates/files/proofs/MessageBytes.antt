@@ -11,9 +11,9 @@ use lib.Seq.{get_or-append-add, get_or-append_seam, take_all}
 use borrow.Author.Tests.{ltb-false}
 use Rattle.modular.specs.Arithmetic.{all_words}
 use Rattle.modular.proofs.Words.{words_drop}
-use Rattle.bytes.specs.Numbers.{little_endian, decimal}
-use Rattle.bytes.proofs.Decimal.{decimal_length}
-use Rattle.bytes.proofs.LittleEndian.{of_none, byte_first, same_bytes, low_bytes}
+use Rattle.octets.specs.Numbers.{little_endian, decimal}
+use Rattle.octets.proofs.Decimal.{decimal_length}
+use Rattle.octets.proofs.LittleEndian.{of_none, byte_first, same_bytes, low_bytes}
 use Rattle.merkle.specs.Lists.{put}
 use Rattle.merkle.proofs.Lists.{length-put, part_put}
 use Rattle.encoding.proofs.Texts.{put_more, put_both}

@@ -7,7 +7,7 @@ ghost use Rattle.std.specs.Prelude.{◌≡◌, [], ◌∷◌, ◌++◌, ◌+◌,
 ghost use Rattle.modular.specs.Arithmetic.{add};
 ghost use Rattle.poseidon2.specs.Rounds.{permute};
 ghost use Rattle.poseidon2.specs.Statements.{Width, Words};
-ghost use Rattle.bytes.specs.Numbers.{numbers_of};
+ghost use Rattle.octets.specs.Numbers.{numbers_of};
 ghost use Rattle.blobs.specs.Blob.{blob_head, file_words};
 ghost use Rattle.blobs.specs.Absorption.{add_block, absorb, file_leaf};
 ghost use Rattle.fields.specs.Prime.{prime, word_bytes};

@@ -2,7 +2,7 @@
 // the mark behind them, or a zero.
 ghost use Rattle.std.specs.Prelude.{◌≡◌, not, ◌||◌, [], ◌∷◌, ◌++◌, ◌+◌, ◌-◌, ◌≤◌, ◌<◌, ◌^◌, ltb, length, get_or, take, drop};
 ghost use Rattle.merkle.specs.Lists.{put};
-ghost use Rattle.bytes.specs.Numbers.{little_endian};
+ghost use Rattle.octets.specs.Numbers.{little_endian};
 ghost use Rattle.blobs.specs.Blob.{blob_head};
 ghost use Rattle.fields.specs.Prime.{word_bytes};
 

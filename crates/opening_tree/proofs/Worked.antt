@@ -18,7 +18,7 @@ use Rattle.repeats.specs.Repeats.{member}
 use Rattle.merkle.specs.Above.{once, above_at, nodes_above}
 use Rattle.merkle.specs.Lists.{put, joined, sum as sumUpTo}
 use Rattle.merkle.specs.Levels.{above, level, build, root}
-use Rattle.bytes.specs.Numbers.{little_endian, numbers_of, digits, decimal}
+use Rattle.octets.specs.Numbers.{little_endian, numbers_of, digits, decimal}
 use Rattle.blobs.specs.Blob.{blob_head, message, shortfall, padded_to, packed, file_words}
 use Rattle.opening_tree.specs.Worked.{v_diagonal, Worked}
 

@@ -10,8 +10,8 @@ use lib.ListN.{length, take, drop, set, length-drop, drop_of_length-le}
 use lib.Seq.{take_all, take-suc-set}
 use Rattle.parameters.specs.Refusals.{constant_count}
 use Rattle.parameters.specs.ParameterSet.{validation}
-use Rattle.bytes.specs.Numbers.{little_endian, numbers_of}
-use Rattle.bytes.proofs.LittleEndian.{numbers_more}
+use Rattle.octets.specs.Numbers.{little_endian, numbers_of}
+use Rattle.octets.proofs.LittleEndian.{numbers_more}
 
 -- t * R_F + R_P, where the list is no longer than it and where it is
 module _ (t rf rp most : ℕ) where

@@ -24,7 +24,7 @@ use Rattle.state_entries.specs.declared.outcome.Outcome.TheVariants.{Done, Refus
 use Rattle.state_entries.specs.Permutation.{outcome_reply}
 use Rattle.trees.specs.SetTrees.{tree_of_set, leaf_words}
 use Rattle.tree_entries.specs.Trees.{has, storeless_refusals, storeless_reply, storeless_rooted}
-use Rattle.bytes.specs.Numbers.{numbers_of, digits, decimal}
+use Rattle.octets.specs.Numbers.{numbers_of, digits, decimal}
 use Rattle.program.specs.Program.{read_width, read_node_size, read_height, read_full_rounds, read_partial_rounds, read_diagonal, read_constants, read_leaves, read_set, read_validation, read_refusals, read_root, bad_byte_count, program_reply, lines, refused_line, reply_text, root_text, EmptyInput}
 
 -- Refusals that do not apply leave the reply to those after them.

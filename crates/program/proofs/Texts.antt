@@ -7,8 +7,8 @@ use native.Mathlib.Numerals.{add-one}
 use native.Mathlib.Omega.{arith}
 use lib.ListN.{length, take, drop, get_or, length-append}
 use lib.Seq.{take-suc, drop-drop}
-use Rattle.bytes.specs.Numbers.{decimal}
-use Rattle.bytes.proofs.Decimal.{decimal_length}
+use Rattle.octets.specs.Numbers.{decimal}
+use Rattle.octets.proofs.Decimal.{decimal_length}
 use Rattle.merkle.specs.Lists.{put}
 use Rattle.encoding.proofs.Texts.{behind}
 use Rattle.program.specs.Program.{newline, lines, written}

@@ -1,6 +1,6 @@
 -- The root program (Rules 7.5, 7.6), from the bytes of its standard input to those of its standard output.
 use Rattle.std.specs.Prelude.{◌≡◌, Bool, not, ◌||◌, List, [], ◌∷◌, ◌++◌, ℕ, ◌/◌, ◌%◌, eqb, ltb, length, get_or, take, drop}
-use Rattle.bytes.specs.Numbers.{numbers_of, decimal}
+use Rattle.octets.specs.Numbers.{numbers_of, decimal}
 use Rattle.refusals.specs.Table.{Refusal, refusal, not_words, Reply, refused, done, reply}
 use Rattle.parameters.specs.declared.ParameterSet.{ParameterSet}
 use Rattle.parameters.specs.declared.Validation.{Validation}

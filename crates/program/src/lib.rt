@@ -3,7 +3,7 @@
 
 ghost use Rattle.std.specs.Prelude.{◌≡◌, ◌+◌, ◌/◌, ◌≤◌, ◌<◌, min, length, take, drop};
 ghost use Rattle.parameters.specs.Refusals.{constant_count};
-ghost use Rattle.bytes.specs.Numbers.{numbers_of};
+ghost use Rattle.octets.specs.Numbers.{numbers_of};
 ghost use Rattle.program.specs.Program.{read_width, read_count, read_leaves, read_validation, lines, refused_line, read_text, root_text, written};
 
 use opening_tree::Outcome;

@@ -5,8 +5,8 @@ use lib.ListN.{length, length-set}
 use borrow.Author.Rules.{rules}
 use borrow.Fn.Kinds.{In}
 use borrow.Fn.PlainCycle.{Measures, is, falls, and}
-use Rattle.bytes.specs.Numbers.{decimal}
-use Rattle.bytes.proofs.Decimal.{decimal_digit, decimal_more, decimal_longer}
+use Rattle.octets.specs.Numbers.{decimal}
+use Rattle.octets.proofs.Decimal.{decimal_digit, decimal_more, decimal_longer}
 use Rattle.encoding.proofs.Texts.{put_byte, put_more}
 use Rattle.encoding.proofs.put_decimal.Reads as put-decimal
 use Rattle.encoding.proofs.put_decimal.Kinds as put-decimal-kinds

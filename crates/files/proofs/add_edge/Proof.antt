@@ -2,7 +2,7 @@ use mathlib.Core.Path.{◌≡◌, ap, ◌∙◌}
 use Prim.Native.Nat.{ℕ, ◌+◌, ◌*◌, ◌-◌, ◌≤◌}
 use native.Mathlib.Omega.{arith}
 use lib.ListN.{take, drop}
-use Rattle.bytes.specs.Numbers.{little_endian}
+use Rattle.octets.specs.Numbers.{little_endian}
 use Rattle.blobs.specs.Absorption.{add_block}
 use Rattle.fields.specs.Prime.{prime, word_bytes}
 use Rattle.fields.proofs.Prime.{bytes_few}

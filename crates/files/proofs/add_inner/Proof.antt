@@ -5,7 +5,7 @@ use native.Mathlib.Omega.{arith}
 use lib.ListN.{length, take, drop, length-drop}
 use lib.Seq.{length-take-le}
 use Rattle.modular.proofs.Words.{words_by}
-use Rattle.bytes.specs.Numbers.{little_endian}
+use Rattle.octets.specs.Numbers.{little_endian}
 use Rattle.blobs.specs.Absorption.{add_block}
 use Rattle.fields.specs.Prime.{prime, word_bytes}
 use Rattle.fields.proofs.Prime.{bytes_few}

@@ -3,7 +3,7 @@ use Prim.Native.Nat.{ℕ, ◌*◌, ◌-◌, ◌/◌, ◌≤◌}
 use native.Mathlib.Omega.{arith}
 use mathlib.Core.List.{List}
 use lib.ListN.{length, take, length-set}
-use Rattle.bytes.specs.Numbers.{little_endian, numbers_of}
+use Rattle.octets.specs.Numbers.{little_endian, numbers_of}
 use Rattle.program.proofs.ProgramInput.{decoded_more, to_end}
 use Rattle.program.proofs.decode.Statement.{statement}
 use Rattle.program.proofs.decode.Tie as tie

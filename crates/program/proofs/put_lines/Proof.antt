@@ -4,7 +4,7 @@ use Prim.Native.Nat.{ℕ, ◌+◌, ◌*◌, ◌-◌, ◌≤◌}
 use native.Mathlib.Omega.{arith}
 use lib.ListN.{length, take, get_or, length-set}
 use lib.Seq.{take-length}
-use Rattle.bytes.specs.Numbers.{decimal}
+use Rattle.octets.specs.Numbers.{decimal}
 use Rattle.encoding.proofs.Texts.{put_more}
 use Rattle.program.specs.Program.{newline, lines, written}
 use Rattle.program.proofs.Texts.{decimal_word, line, line_length, lines_more, lines_longer, written_more}

@@ -2,7 +2,7 @@ use mathlib.Core.Path.{◌≡◌, refl, ◌∙◌}
 use Prim.Native.Nat.{◌<◌}
 use native.Mathlib.Omega.{arith}
 use lib.ListN.{length, length-set}
-use Rattle.bytes.specs.Numbers.{decimal}
+use Rattle.octets.specs.Numbers.{decimal}
 use Rattle.encoding.proofs.Texts.{put_more}
 use Rattle.program.specs.Program.{newline, refused_word, refused_line}
 use Rattle.program.proofs.Texts.{decimal_byte, line, line_length, written_put, written_more}

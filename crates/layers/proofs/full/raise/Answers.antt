@@ -1,0 +1,7 @@
+use Rattle.blocks.proofs.Lists.{raised}
+use Rattle.std.proofs.Common.{rules}
+use Rattle.layers.proofs.full.raise.Goals as goal
+
+pub returns : goal.returns
+returns c =
+    raised c.args.x c.args.c c.seventh_power.ensures c.sum.ensures

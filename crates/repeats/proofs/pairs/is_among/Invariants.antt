@@ -1,0 +1,15 @@
+use mathlib.Core.Path.{refl, sym, ◌∙◌}
+use Prim.Native.Nat.{◌-◌}
+use native.Mathlib.Omega.{arith}
+use borrow.Author.Rules.{rules}
+use lib.ListN.{length}
+use Rattle.modular.proofs.Undecided.{Undecided, decided_rest}
+use Rattle.repeats.specs.Repeats.{member}
+use Rattle.repeats.proofs.Members.{four_among, four_others}
+use Rattle.repeats.proofs.pairs.is_among.Given as goal
+
+abbrev pub invariant-loop-i : goal.invariant-loop-i
+invariant-loop-i l = Undecided (member l.number) l.numbers l.i
+
+abbrev pub decreases-loop-i : goal.decreases-loop-i
+decreases-loop-i l = length l.numbers - l.i

@@ -1,0 +1,29 @@
+use mathlib.Core.Path.{◌≡◌, refl}
+use mathlib.Core.List.{[], ◌∷◌}
+use Prim.Native.Nat.{◌-◌, ◌^◌, ◌≤◌}
+use native.Mathlib.Omega.{arith}
+use borrow.Author.Rules.{rules}
+use lib.ListN.{length}
+use Rattle.blocks.specs.Blocks.{flat}
+use Rattle.roots.proofs.Chain.{Stand, squared_none, squared_more, squared_times, products_three}
+use Rattle.roots.proofs.step.raised12.Goals as goal
+
+pub loop-i-init : goal.loop-i-init
+loop-i-init c = (omega arith, omega arith, squared_none _)
+
+pub loop-i-preserved : goal.loop-i-preserved
+loop-i-preserved c =
+    let r = c.loop-i.r in
+    let next = c.squares4.result ∷ c.squares4-in-loop-i.result ∷ c.squares4-in-loop-i-2.result ∷ [] in (
+      omega arith,
+      refl,
+      squared_more c.loop-i.i (flat 3 next) c.loop-i.invariant.2
+          (products_three next r r c.squares4.ensures c.squares4-in-loop-i.ensures c.squares4-in-loop-i-2.ensures),
+    )
+
+pub returns : goal.returns
+returns c =
+    let a = c.args in
+    let last = c.times4.result ∷ c.times4-2.result ∷ c.times4-3.result ∷ [] in
+    squared_times c.loop-i.i a.n (flat 3 a.t3) (flat 3 last) (omega arith) c.loop-i.invariant.2
+    (products_three last c.loop-i.r a.t3 c.times4.ensures c.times4-2.ensures c.times4-3.ensures)

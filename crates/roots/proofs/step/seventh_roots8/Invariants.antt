@@ -1,0 +1,18 @@
+-- The loop's invariant: what r and ten stand for after k steps of the chain.
+use mathlib.Core.Path.{◌≡◌}
+use mathlib.Core.List.{[], ◌∷◌}
+use mathlib.Core.Logic.{⊎_elim, inl, inr}
+use Prim.Native.Nat.{◌-◌, ◌≤◌}
+use native.Mathlib.Omega.{arith}
+use borrow.Author.Rules.{rules}
+use lib.ListN.{length}
+use Rattle.blocks.specs.Blocks.{flat}
+use Rattle.roots.proofs.Chain.{are_roots, residues_two}
+use Rattle.roots.proofs.Steps.{Reached, reached_none, reached_more, reached_root}
+use Rattle.roots.proofs.step.seventh_roots8.Given as goal
+
+abbrev pub invariant-loop-k : goal.invariant-loop-k
+invariant-loop-k l = (l.k ≤ 9) × (length l.r ≡ 2) × Reached (flat 2) l.y l.k l.r l.ten
+
+abbrev pub decreases-loop-k : goal.decreases-loop-k
+decreases-loop-k l = 9 - l.k
