@@ -23,7 +23,7 @@ join_block-requires-2 c =
 
 pub returns : goal.returns
 returns c =
-    let s = c.args.t1 in
+    let s = c.args.s in
     let x = get_or s 0 [] in
     let y = get_or s 1 [] in
     let a = c.highs.result in

@@ -15,7 +15,7 @@ m4_blocks4-requires-3 c = c.requires.at 2 (lit< tt)
 
 pub returns : goal.returns
 returns c =
-    let s = c.args.t1 in
+    let s = c.args.s in
     let a = c.m4_blocks4.result in
     let b = c.m4_blocks4-2.result in
     let d = c.m4_blocks4-3.result in (

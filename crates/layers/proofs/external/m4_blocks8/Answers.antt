@@ -12,7 +12,7 @@ m4_blocks4-requires-2 c = c.requires.at 1 (lit< tt)
 
 pub returns : goal.returns
 returns c =
-    let s = c.args.t1 in
+    let s = c.args.s in
     let a = c.m4_blocks4.result in
     let b = c.m4_blocks4-2.result in (
       m4_more p (get_or s 0 []) a (four (get_or s 1 [])) (four b) c.m4_blocks4.ensures.0 (m4_more p (get_or s 1 []) b [] [] c.m4_blocks4-2.ensures.0 (m4_none p)),

@@ -17,7 +17,7 @@ add_sum-requires-2 c =
 
 pub returns : goal.returns
 returns c =
-    let s = c.args.t1 in (
+    let s = c.args.s in (
       sums_two p (get_or s 0 []) (get_or s 1 []) c.sum_blocks-q.result c.add_sum.result c.add_sum-2.result (lit< tt)
           c.sum_blocks-q.ensures.0 c.add_sum.ensures.0 c.add_sum.ensures.1 c.add_sum-2.ensures.0 c.add_sum-2.ensures.1,
       within_two c.add_sum.result c.add_sum-2.result c.add_sum.ensures.1 c.add_sum-2.ensures.1,

@@ -18,5 +18,5 @@ raise4-z-requires c =
 pub returns : goal.returns
 returns c =
     let a = c.args in
-    raised_three p (get_or a.t1 0 []) (get_or a.t1 1 []) (get_or a.t1 2 []) c.raise4-x.result c.raise4-y.result c.raise4-z.result
+    raised_three p (get_or a.s 0 []) (get_or a.s 1 []) (get_or a.s 2 []) c.raise4-x.result c.raise4-y.result c.raise4-z.result
     a.constants.now a.at c.raise4-x.ensures c.raise4-y.ensures c.raise4-z.ensures

@@ -21,5 +21,5 @@ raise-requires-4 c =
 pub returns : goal.returns
 returns c =
     let a = c.args in
-    raised_four a.t1 (c.raise.result ∷ c.raise-2.result ∷ c.raise-3.result ∷ c.raise-4.result ∷ []) a.constants.now a.at
+    raised_four a.x (c.raise.result ∷ c.raise-2.result ∷ c.raise-3.result ∷ c.raise-4.result ∷ []) a.constants.now a.at
     c.raise.ensures c.raise-2.ensures c.raise-3.ensures c.raise-4.ensures

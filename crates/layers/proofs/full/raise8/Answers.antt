@@ -14,4 +14,4 @@ raise4-y-requires c =
 pub returns : goal.returns
 returns c =
     let a = c.args in
-    raised_two p (get_or a.t1 0 []) (get_or a.t1 1 []) c.raise4-x.result c.raise4-y.result a.constants.now a.at c.raise4-x.ensures c.raise4-y.ensures
+    raised_two p (get_or a.s 0 []) (get_or a.s 1 []) c.raise4-x.result c.raise4-y.result a.constants.now a.at c.raise4-x.ensures c.raise4-y.ensures

@@ -21,7 +21,7 @@ returns c =
     let r2 = c.add_word-b.result in
     let r3 = c.add_word-c.result in
     let r4 = c.add_word.result in (
-      block_sum (a.high * limit + a.low) (r1.high * limit + r1.low) (r2.high * limit + r2.low) (r3.high * limit + r3.low) (r4.high * limit + r4.low) a.t3
+      block_sum (a.high * limit + a.low) (r1.high * limit + r1.low) (r2.high * limit + r2.low) (r3.high * limit + r3.low) (r4.high * limit + r4.low) a.x
           c.add_word-a.ensures.0 c.add_word-b.ensures.0 c.add_word-c.ensures.0 c.add_word.ensures.0,
       block_carries a.high r1.high r2.high r3.high r4.high c.add_word-a.ensures.1 c.add_word-b.ensures.1 c.add_word-c.ensures.1 c.add_word.ensures.1,
     )

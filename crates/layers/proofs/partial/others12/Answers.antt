@@ -22,6 +22,6 @@ returns c =
     let rz = c.add_block-z.result in
     c.both.ensures
     ∙ ap (λ (x : ℕ). x % p)
-    (chains a.t1 (four a.b) (four a.c) (ry.high * limit + ry.low) (rz.high * limit + rz.low)
-    (two_and_block a.t1 a.b (rs.high * limit + rs.low) (ry.high * limit + ry.low) c.add_word-s.ensures.0 c.add_block-y.ensures.0)
-    (one_and_block a.t1 a.c (rz.high * limit + rz.low) c.add_block-z.ensures.0))
+    (chains a.a (four a.b) (four a.c) (ry.high * limit + ry.low) (rz.high * limit + rz.low)
+    (two_and_block a.a a.b (rs.high * limit + rs.low) (ry.high * limit + ry.low) c.add_word-s.ensures.0 c.add_block-y.ensures.0)
+    (one_and_block a.a a.c (rz.high * limit + rz.low) c.add_block-z.ensures.0))

@@ -12,5 +12,5 @@ returns c =
     let ry = c.add_word-y.result in
     c.both.ensures
     ∙ ap (λ (x : ℕ). x % p)
-    (chains a.t1 [] [] (ry.high * limit + ry.low) (0 * limit + get_or a.t1 3 0)
-    (two_alone a.t1 (ry.high * limit + ry.low) c.add_word-y.ensures.0) (one_alone a.t1))
+    (chains a.a [] [] (ry.high * limit + ry.low) (0 * limit + get_or a.a 3 0)
+    (two_alone a.a (ry.high * limit + ry.low) c.add_word-y.ensures.0) (one_alone a.a))

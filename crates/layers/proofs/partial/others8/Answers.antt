@@ -15,5 +15,5 @@ returns c =
     let rz = c.add_block-z.result in
     c.both.ensures
     ∙ ap (λ (x : ℕ). x % p)
-    (chains a.t1 [] (four a.b) (ry.high * limit + ry.low) (rz.high * limit + rz.low)
-    (two_alone a.t1 (ry.high * limit + ry.low) c.add_word-y.ensures.0) (one_and_block a.t1 a.b (rz.high * limit + rz.low) c.add_block-z.ensures.0))
+    (chains a.a [] (four a.b) (ry.high * limit + ry.low) (rz.high * limit + rz.low)
+    (two_alone a.a (ry.high * limit + ry.low) c.add_word-y.ensures.0) (one_and_block a.a a.b (rz.high * limit + rz.low) c.add_block-z.ensures.0))

@@ -10,7 +10,7 @@ use Rattle.layers.proofs.partial.partial12.Goals as goal
 pub returns : goal.returns
 unfolding residues
 returns c =
-    let s = c.args.t1 in
+    let s = c.args.s in
     let D = c.args.diagonal.now in
     partial_blocks c.args.c D (get_or s 0 []) (four (get_or s 1 []) ++ four (get_or s 2 []))
     (residues p (four c.multiples-y.result) ++ residues p (four c.multiples-z.result))

@@ -7,7 +7,7 @@ pub returns : goal.returns
 unfolding residues
 returns c =
     let x3 = c in
-    let s = x3.args.t1 in
+    let s = x3.args.a in
     let D = x3.args.diagonal.now in
     partial_blocks x3.args.c D s [] []
     x3.seventh_power-w.ensures x3.others4-r.ensures x3.sum-t.ensures x3.sum-q.ensures x3.requires.1

@@ -9,7 +9,7 @@ use Rattle.layers.proofs.partial.partial8.Goals as goal
 pub returns : goal.returns
 unfolding residues
 returns c =
-    let s = c.args.t1 in
+    let s = c.args.s in
     let D = c.args.diagonal.now in
     partial_blocks c.args.c D (get_or s 0 []) (four (get_or s 1 [])) (residues p (four c.multiples-y.result))
     c.seventh_power-w.ensures c.others8-r.ensures c.sum-t.ensures c.sum-q.ensures c.requires.1

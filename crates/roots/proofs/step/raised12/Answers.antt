@@ -25,5 +25,5 @@ pub returns : goal.returns
 returns c =
     let a = c.args in
     let last = c.times4.result ∷ c.times4-2.result ∷ c.times4-3.result ∷ [] in
-    squared_times c.loop-i.i a.n (flat 3 a.t3) (flat 3 last) (omega arith) c.loop-i.invariant.2
-    (products_three last c.loop-i.r a.t3 c.times4.ensures c.times4-2.ensures c.times4-3.ensures)
+    squared_times c.loop-i.i a.n (flat 3 a.y) (flat 3 last) (omega arith) c.loop-i.invariant.2
+    (products_three last c.loop-i.r a.y c.times4.ensures c.times4-2.ensures c.times4-3.ensures)

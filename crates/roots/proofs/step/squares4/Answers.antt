@@ -4,5 +4,5 @@ use Rattle.roots.proofs.step.squares4.Goals as goal
 
 pub returns : goal.returns
 returns c =
-    let x = c.args.t1 in
+    let x = c.args.x in
     products_four x x c.square.ensures c.square-2.ensures c.square-3.ensures c.square-4.ensures

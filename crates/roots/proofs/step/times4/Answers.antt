@@ -5,4 +5,4 @@ use Rattle.roots.proofs.step.times4.Goals as goal
 pub returns : goal.returns
 returns c =
     let a = c.args in
-    products_four a.t1 a.t2 c.product.ensures c.product-2.ensures c.product-3.ensures c.product-4.ensures
+    products_four a.a a.b c.product.ensures c.product-2.ensures c.product-3.ensures c.product-4.ensures
