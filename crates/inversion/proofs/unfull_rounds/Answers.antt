@@ -1,5 +1,5 @@
 use mathlib.Core.Path.{◌≡◌, refl, sym, ap, subst, ◌∙◌}
-use Prim.Native.Nat.{ℕ, ◌+◌, ◌*◌, ◌-◌, ◌≤◌}
+use Prim.Native.Nat.{ℕ, ◌+◌, ◌*◌, ◌-◌}
 use native.Mathlib.Omega.{arith}
 use lib.ListN.{length, drop}
 use Rattle.fields.specs.Prime.{prime}
@@ -36,7 +36,7 @@ loop-i-preserved c =
     let at = c.args.at in
     let i = c.loop-i.i in
     let v = c.loop-i.invariant.2 in
-    let q : c.unround.new.1.1.0 ≡ full_from (length xs) C at c.args.rounds xs (i - 1) =
+    let q : c.unround.new.state ≡ full_from (length xs) C at c.args.rounds xs (i - 1) =
     c.unround.ensures ∙ ap (λ (m : ℕ). unfull_round prime (drop (at + m * (i - 1)) C) c.loop-i.state) v.width
     ∙ full_more (length xs) C at c.args.rounds xs i c.loop-i.state c.requires.0 c.loop-i-test.true c.loop-i.invariant.0 v c.loop-i.invariant.1 in
     (omega arith, q, subst (State prime (length xs)) (sym q) (unfull_rounds-state _ _ xs c.requires.0 (record { width = refl; words = c.requires.1 })))

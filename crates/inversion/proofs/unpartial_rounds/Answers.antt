@@ -1,6 +1,6 @@
 use mathlib.Core.Path.{◌≡◌, refl, sym, ap, subst, ◌∙◌}
 use mathlib.Core.List.{List}
-use Prim.Native.Nat.{ℕ, ◌+◌, ◌-◌, ◌%◌, ◌≤◌}
+use Prim.Native.Nat.{ℕ, ◌+◌, ◌-◌, ◌%◌}
 use native.Mathlib.Omega.{arith}
 use lib.ListN.{length, get_or, take, set, length-set}
 use Rattle.modular.specs.Arithmetic.{sub, seventh_root}
@@ -39,7 +39,6 @@ bounds-state-0-in-loop-i c =
 
 pub loop-i-preserved : goal.loop-i-preserved
 loop-i-preserved c =
-    let l = c.before.before.before.before.before.before.before.before.before in
     let xs = c.args.state.now in
     let es = take (length xs) c.args.inverses.now in
     let k = c.args.total_inverse in
@@ -47,7 +46,7 @@ loop-i-preserved c =
     let at = c.args.at in
     let i = c.loop-i.i in
     let zs = residues prime c.loop-i.state in
-    let ys = c.uninternal.new.1.1.1.0 in
+    let ys = c.uninternal.new.state in
     let r = c.lazy_difference.result in
     let f : residues prime ys ≡ uninternal_by prime es k zs =
     subst (λ (n : ℕ). residues prime ys ≡ uninternal_by prime (take n c.args.inverses.now) k zs) c.loop-i.invariant.2 c.uninternal.ensures in

@@ -1,4 +1,3 @@
-use borrow.Author.Rules.{rules}
 use native.Mathlib.Omega.{arith}
 use Rattle.inversion.proofs.Several.{sub-four}
 use Rattle.inversion.proofs.external.less_block.Goals as goal

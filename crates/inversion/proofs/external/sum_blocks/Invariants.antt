@@ -1,13 +1,9 @@
 -- The loop's invariant: the blocks from place i on are added up.
-use mathlib.Core.Path.{◌≡◌, ap, ◌∙◌}
-use mathlib.Core.List.{List}
-use Prim.Native.Nat.{ℕ, ◌+◌, ◌-◌, ◌%◌, ◌≤◌}
-use native.Mathlib.Omega.{arith}
+use mathlib.Core.Path.{◌≡◌}
+use Prim.Native.Nat.{◌%◌, ◌≤◌}
 use lib.ListN.{length, drop}
 use Rattle.fields.specs.Prime.{prime}
-use Rattle.poseidon2.specs.Layers.{add_lists, blocks, sum_blocks}
-use Rattle.fields.proofs.Prime.{positive}
-use Rattle.inversion.proofs.Blocks.{sum-none, sum_more, sum-words, block_words}
+use Rattle.poseidon2.specs.Layers.{blocks, sum_blocks}
 use Rattle.inversion.proofs.external.sum_blocks.Given as goal
 
 abbrev pub invariant-loop-i : goal.invariant-loop-i

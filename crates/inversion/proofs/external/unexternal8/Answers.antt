@@ -1,5 +1,4 @@
 use mathlib.Core.Path.{◌≡◌, sym, ap, subst, ◌∙◌}
-use borrow.Author.Rules.{rules}
 use native.Mathlib.Omega.{arith}
 use Prim.Native.Nat.{◌%◌}
 use lib.ListN.{length}
@@ -25,15 +24,15 @@ pub unm4-requires : goal.unm4-requires
 unm4-requires c = subst (Words prime) (sym c.add_blocks-2.ensures) (add_lists-words positive _ _)
 
 pub add_blocks-requires-3 : goal.add_blocks-requires-3
-add_blocks-requires-3 c = (c.requires.1, share-words c.before.before)
+add_blocks-requires-3 c = (c.requires.1, share-words (goal.at.add_blocks-requires-3 c).After-minus_thirds-share)
 
 pub unm4-requires-2 : goal.unm4-requires-2
 unm4-requires-2 c = subst (Words prime) (sym c.add_blocks-3.ensures) (add_lists-words positive _ _)
 
 pub returns : goal.returns
 returns c =
-    let la : length c.args.a ≡ 4 = sym (ap length c.add_blocks-2.ensures ∙ add_lists-length prime c.args.a _) ∙ omega (arith, c.add_blocks-2.type-inv) in
-    let lb : length c.args.b ≡ 4 = sym (ap length c.add_blocks-3.ensures ∙ add_lists-length prime c.args.b _) ∙ omega (arith, c.add_blocks-3.type-inv) in
-    unexternal_two c.args.a c.args.b c.minus_thirds-share.result c.unm4.result c.unm4-2.result la lb c.requires.1 (omega (arith, c.unm4.type-inv)) (omega (arith, c.unm4-2.type-inv))
+    let la : length c.args.a ≡ 4 = sym (ap length c.add_blocks-2.ensures ∙ add_lists-length prime c.args.a _) ∙ omega (arith, c.add_blocks-2.type_inv) in
+    let lb : length c.args.b ≡ 4 = sym (ap length c.add_blocks-3.ensures ∙ add_lists-length prime c.args.b _) ∙ omega (arith, c.add_blocks-3.type_inv) in
+    unexternal_two c.args.a c.args.b c.minus_thirds-share.result c.unm4.result c.unm4-2.result la lb c.requires.1 (omega (arith, c.unm4.type_inv)) (omega (arith, c.unm4-2.type_inv))
     (c.minus_thirds-share.ensures ∙ ap (scaled prime (negative prime (inverse prime (3 % prime)))) c.add_blocks.ensures)
     (c.unm4.ensures ∙ ap (unm4 prime) c.add_blocks-2.ensures) (c.unm4-2.ensures ∙ ap (unm4 prime) c.add_blocks-3.ensures)

@@ -1,5 +1,4 @@
 use native.Mathlib.Omega.{arith}
-use borrow.Author.Rules.{rules}
 use lib.ListN.{get_or}
 use Rattle.inversion.proofs.Words.{sub_word}
 use Rattle.inversion.proofs.Parts.{restored, divided, unm4_steps}

@@ -1,15 +1,15 @@
 use mathlib.Core.Path.{sym, ap, subst, ◌∙◌}
 use mathlib.Core.List.{List, ◌++◌}
-use Prim.Native.Nat.{ℕ, ◌+◌, ◌-◌, ◌≤◌}
+use Prim.Native.Nat.{ℕ, ◌+◌}
 use native.Mathlib.Omega.{arith}
-use lib.ListN.{length, take, drop}
+use lib.ListN.{take, drop}
 use Rattle.fields.specs.Prime.{prime}
 use Rattle.poseidon2.specs.Layers.{add_lists}
 use Rattle.poseidon2.specs.Inverse.{unm4}
 use Rattle.poseidon2.specs.Statements.{Words}
 use Rattle.fields.proofs.Prime.{positive}
 use Rattle.poseidon2.proofs.Words.{add_lists-words}
-use Rattle.inversion.proofs.Blocks.{Each, each_none, each_more, each_all, block_words}
+use Rattle.inversion.proofs.Blocks.{each_none, each_more, each_all, block_words}
 use Rattle.inversion.proofs.external.unm4_each.Goals as goal
 
 pub loop-i-init : goal.loop-i-init

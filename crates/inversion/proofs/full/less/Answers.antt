@@ -1,6 +1,5 @@
 use Prim.Native.Nat.{◌+◌}
 use native.Mathlib.Omega.{arith}
-use borrow.Author.Rules.{rules}
 use Rattle.fields.specs.Prime.{prime}
 use Rattle.inversion.proofs.Written.{less_four}
 use Rattle.inversion.proofs.full.less.Goals as goal

@@ -44,21 +44,21 @@ less-requires c =
     let R = c in
     (omega (arith, R.requires.1), fewer_words R.requires.2 (omega arith), root_words R)
 
-written : (c : After-put_block) → Written (length c.args.state.now) 4 ([] ++ four c.less.result) c.put_block.new.1.1.0
-written c = written_more c.less.result c.put_block.new.1.1.0 (written_none c.args.state.now) (omega arith) (omega (arith, c.requires.0)) c.put_block.ensures
+written : (c : After-put_block) → Written (length c.args.state.now) 4 ([] ++ four c.less.result) c.put_block.new.state
+written c = written_more c.less.result c.put_block.new.state (written_none c.args.state.now) (omega arith) (omega (arith, c.requires.0)) c.put_block.ensures
 
 pub put_block-requires : goal.put_block-requires
 put_block-requires c =
     omega (arith, c.requires.0)
 
 pub shape_of-state : goal.shape_of-state
-shape_of-state c = (written c.before.before).width
+shape_of-state c = (written (goal.at.shape_of-state c).After-put_block).width
 
 pub returns : goal.returns
 unfolding unfull_round
 returns c =
-    let P = c.before.before in
-    let R = c.before.before.before.before.before in
+    let P = (goal.at.returns c).After-put_block in
+    let R = (goal.at.returns c).After-seventh_roots4-r in
     let C = c.args.constants.now in
     let at = c.args.at in
     written_all (written P) (omega (arith, c.requires.0))

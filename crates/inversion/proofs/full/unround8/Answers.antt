@@ -3,7 +3,6 @@ use mathlib.Core.Logic.{inl, inr}
 use mathlib.Core.List.{List, [], ◌++◌}
 use Prim.Native.Nat.{ℕ}
 use native.Mathlib.Omega.{arith}
-use borrow.Author.Rules.{rules}
 use lib.ListN.{length, get_or, drop}
 use Rattle.fields.specs.Prime.{prime}
 use Rattle.fields.proofs.Prime.{positive}
@@ -42,19 +41,19 @@ seventh_roots8-r-requires c =
 
 pub less-requires : goal.less-requires
 less-requires c =
-    let R = c.before in
+    let R = (goal.at.less-requires c).After-seventh_roots8-r in
     (omega (arith, c.requires.1), fewer_words c.requires.2 (omega arith), block_words positive (get_or c.seventh_roots8-r.result 0 []) ((root_words R).at 0) ((root_words R).at 1) ((root_words R).at 2) ((root_words R).at 3))
 
 pub less-requires-2 : goal.less-requires-2
 less-requires-2 c =
-    let R = c.before.before.before.before.before.before.before in
+    let R = (goal.at.less-requires-2 c).After-seventh_roots8-r in
     (omega (arith, c.requires.1), fewer_words c.requires.2 (omega arith), block_words positive (get_or c.seventh_roots8-r.result 1 []) ((root_words R).at 4) ((root_words R).at 5) ((root_words R).at 6) ((root_words R).at 7))
 
-written : (c : After-put_block) → Written (length c.args.state.now) 4 ([] ++ four c.less.result) c.put_block.new.1.1.0
-written c = written_more c.less.result c.put_block.new.1.1.0 (written_none c.args.state.now) (omega arith) (omega (arith, c.requires.0)) c.put_block.ensures
+written : (c : After-put_block) → Written (length c.args.state.now) 4 ([] ++ four c.less.result) c.put_block.new.state
+written c = written_more c.less.result c.put_block.new.state (written_none c.args.state.now) (omega arith) (omega (arith, c.requires.0)) c.put_block.ensures
 
-written2 : (c : After-put_block-2) → Written (length c.args.state.now) 8 (([] ++ four c.less.result) ++ four c.less-2.result) c.put_block-2.new.1.1.0
-written2 c = written_more c.less-2.result c.put_block-2.new.1.1.0 (written c.before.before.before.before.before.before) (omega arith) (omega (arith, c.requires.0)) c.put_block-2.ensures
+written2 : (c : After-put_block-2) → Written (length c.args.state.now) 8 (([] ++ four c.less.result) ++ four c.less-2.result) c.put_block-2.new.state
+written2 c = written_more c.less-2.result c.put_block-2.new.state (written c.before.before.before.before.before.before) (omega arith) (omega (arith, c.requires.0)) c.put_block-2.ensures
 
 pub put_block-requires : goal.put_block-requires
 put_block-requires c =
@@ -62,17 +61,17 @@ put_block-requires c =
 
 pub put_block-requires-2 : goal.put_block-requires-2
 put_block-requires-2 c =
-    let P = c.before.before.before.before.before in
+    let P = (goal.at.put_block-requires-2 c).After-put_block in
     omega (arith, c.requires.0, (written P).width)
 
 pub shape_of-state : goal.shape_of-state
-shape_of-state c = (written2 c.before.before).width
+shape_of-state c = (written2 (goal.at.shape_of-state c).After-put_block-2).width
 
 pub returns : goal.returns
 unfolding unfull_round
 returns c =
-    let P = c.before.before in
-    let R = c.before.before.before.before.before.before.before.before.before.before.before.before in
+    let P = (goal.at.returns c).After-put_block-2 in
+    let R = (goal.at.returns c).After-seventh_roots8-r in
     let C = c.args.constants.now in
     let at = c.args.at in
     written_all (written2 P) (omega (arith, c.requires.0))

@@ -1,6 +1,5 @@
 use mathlib.Core.Path.{◌∙◌, ap}
 use Prim.Native.Nat.{ℕ, ◌*◌, ◌%◌}
-use borrow.Author.Rules.{rules}
 use Rattle.modular.specs.Arithmetic.{mul}
 use Rattle.modular.proofs.Congruence.{refl≈, sym≈, trans≈, mul≈, mod≈}
 use Rattle.fields.specs.Prime.{prime}

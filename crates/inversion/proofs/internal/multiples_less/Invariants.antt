@@ -1,13 +1,11 @@
 -- The loop's invariant: the places before i are done.
-use mathlib.Core.Path.{◌≡◌, refl, ap, ◌∙◌}
-use Prim.Native.Nat.{ℕ, ◌-◌, ◌%◌, ◌≤◌}
-use native.Mathlib.Omega.{arith}
-use lib.ListN.{length, get_or, length-set}
+use mathlib.Core.Path.{◌≡◌}
+use Prim.Native.Nat.{◌-◌, ◌%◌, ◌≤◌}
+use lib.ListN.{length, get_or}
 use Rattle.modular.specs.Arithmetic.{sub, mul}
 use Rattle.fields.specs.Prime.{prime}
 use Rattle.poseidon2.specs.Residues.{residues}
-use Rattle.poseidon2.proofs.Words.{residues_length}
-use Rattle.inversion.proofs.Placewise.{done, done_none, lazy_four, done_multiples}
+use Rattle.inversion.proofs.Placewise.{done}
 use Rattle.inversion.proofs.internal.multiples_less.Given as goal
 
 abbrev pub invariant-loop-i : goal.invariant-loop-i

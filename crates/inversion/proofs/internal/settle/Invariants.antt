@@ -1,10 +1,9 @@
 -- The loop's invariant: the places passed have their words.
-use mathlib.Core.Path.{◌≡◌, refl, ap, ◌∙◌}
-use Prim.Native.Nat.{ℕ, ◌-◌, ◌%◌, ◌≤◌}
-use native.Mathlib.Omega.{arith}
-use lib.ListN.{length, length-set}
+use mathlib.Core.Path.{◌≡◌}
+use Prim.Native.Nat.{◌-◌, ◌%◌, ◌≤◌}
+use lib.ListN.{length}
 use Rattle.fields.specs.Prime.{prime}
-use Rattle.inversion.proofs.Placewise.{done, done_none, done_more, done_residues}
+use Rattle.inversion.proofs.Placewise.{done}
 use Rattle.inversion.proofs.internal.settle.Given as goal
 
 abbrev pub invariant-loop-i : goal.invariant-loop-i

@@ -1,7 +1,6 @@
 use mathlib.Core.Path.{◌≡◌, sym, ap, ◌∙◌}
 use Prim.Native.Nat.{ℕ, ◌<◌}
 use native.Mathlib.Omega.{arith}
-use borrow.Author.Rules.{rules}
 use lib.ListN.{length, take}
 use lib.Seq.{length-take-le}
 use Rattle.fields.specs.Prime.{prime}
@@ -26,15 +25,15 @@ word c =
 
 pub multiples_less-requires : goal.multiples_less-requires
 multiples_less-requires c =
-    (word c.before, c.requires.1, c.requires.2)
+    (word (goal.at.multiples_less-requires c).After-old_sum-s, c.requires.1, c.requires.2)
 
 pub put_rest-requires : goal.put_rest-requires
 put_rest-requires c =
-    (word c.before.before, omega arith)
+    (word (goal.at.put_rest-requires c).After-old_sum-s, omega arith)
 
 pub returns : goal.returns
 returns c =
-    let s = c.before.before.before.before.before.before.before.before.before.before.before in
+    let s = (goal.at.returns c).Start in
     let a = c.args in
     let n = length a.state.now in
     let ys = residues prime a.state.now in

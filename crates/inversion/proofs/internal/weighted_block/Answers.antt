@@ -1,4 +1,3 @@
-use borrow.Author.Rules.{rules}
 use Rattle.inversion.proofs.Sums.{dot_four}
 use Rattle.inversion.proofs.internal.weighted_block.Goals as goal
 

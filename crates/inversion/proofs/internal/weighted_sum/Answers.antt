@@ -1,8 +1,6 @@
 use mathlib.Core.Path.{◌≡◌, ap, ◌∙◌}
-use Prim.Native.Nat.{◌%◌, ◌≤◌}
 use native.Mathlib.Omega.{arith}
 use lib.ListN.{length}
-use Rattle.modular.specs.Congruence.{◌≈⟨◌⟩◌}
 use Rattle.modular.proofs.Congruence.{eq≈, trans≈}
 use Rattle.fields.specs.Prime.{prime}
 use Rattle.fields.proofs.Prime.{positive}

@@ -1,15 +1,11 @@
 -- The loop's invariant: the products from place i on are added up.
-use mathlib.Core.Path.{◌≡◌, ap, ◌∙◌}
+use mathlib.Core.Path.{◌≡◌}
 use Prim.Native.Nat.{◌%◌, ◌≤◌}
-use native.Mathlib.Omega.{arith}
 use lib.ListN.{length}
 use Rattle.modular.specs.Congruence.{◌≈⟨◌⟩◌}
-use Rattle.modular.proofs.Congruence.{eq≈, trans≈}
 use Rattle.fields.specs.Prime.{prime}
-use Rattle.fields.proofs.Prime.{positive}
 use Rattle.poseidon2.specs.Residues.{residues}
-use Rattle.poseidon2.proofs.Words.{below}
-use Rattle.inversion.proofs.Sums.{dot_from, dot_none, dot_all, dot_more}
+use Rattle.inversion.proofs.Sums.{dot_from}
 use Rattle.inversion.proofs.internal.weighted_sum.Given as goal
 
 abbrev pub invariant-loop-i : goal.invariant-loop-i

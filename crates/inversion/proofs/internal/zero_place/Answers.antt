@@ -1,11 +1,10 @@
 use mathlib.Core.Path.{◌≡◌, sym, subst, ◌∙◌}
 use mathlib.Core.List.{List}
-use Prim.Native.Nat.{ℕ, ◌-◌, ◌<◌, ◌≤◌}
+use Prim.Native.Nat.{ℕ, ◌<◌, ◌≤◌}
 use native.Mathlib.Omega.{arith}
-use borrow.Author.Rules.{rules}
 use lib.ListN.{length, take}
 use lib.Seq.{length-take-le, get_or-take}
-use Rattle.poseidon2.proofs.Zeros.{PlaceFrom, place_start, place_found, place_next, place_end}
+use Rattle.poseidon2.proofs.Zeros.{place_start, place_found, place_next, place_end}
 use Rattle.inversion.proofs.internal.zero_place.Goals as goal
 
 pub loop-i-init : goal.loop-i-init
