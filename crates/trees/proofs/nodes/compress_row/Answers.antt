@@ -21,5 +21,5 @@ returns c =
     let a = c.args in
     let v = c.requires.numbers in
     let t = a.d.arity * a.d.node_size in
-    node_of_six a.d.node_size a.row c.compress_at.new.1.1.1.1.1.1.0 ((tree a.d a.diagonal.now a.constants.now).compress (take t a.row))
+    node_of_six a.d.node_size a.row c.compress_at.new.store ((tree a.d a.diagonal.now a.constants.now).compress (take t a.row))
     (node_small v) (omega arith) ((regular v a.diagonal.now a.constants.now).sized (take t a.row) (length-take-le t a.row (omega (arith, width_small v)))) c.compress_at.ensures

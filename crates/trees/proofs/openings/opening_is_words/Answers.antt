@@ -40,7 +40,7 @@ pub returns-then-not-siblings_are_words : goal.returns-then-not-siblings_are_wor
 returns-then-not-siblings_are_words c =
     let a = c.args in
     let b : c.loop-level.level < a.d.height = c.loop-level-test.true in
-    λ D C. level_fails a.store.now c.loop-level.invariant.0 b _ (sym (c.siblings_are_words.ensures [] []) ∙ not-true c.siblings_are_words.result c.if-not-siblings_are_words.true)
+    λ D C. level_fails a.store.now c.loop-level.invariant.0 b _ (sym (c.siblings_are_words.ensures [] []) ∙ c.if-not-siblings_are_words.true)
     ∙ ap (all_words _) (opening_any a.d D C a.place a.store.now)
 
 pub overflow_add-number : goal.overflow_add-number
@@ -59,7 +59,7 @@ loop-level-preserved c =
     let a = c.args in
     let b : c.loop-level.level < a.d.height = c.loop-level-test.true in (
       over_next c.loop-level.invariant.0 b c.leaf_count-leaves.result c.leaf_count-leaves.ensures,
-      level_words a.store.now c.loop-level.invariant.0 b _ c.loop-level.invariant.1 (sym (c.siblings_are_words.ensures [] []) ∙ not-false c.siblings_are_words.result c.if-not-siblings_are_words.false),
+      level_words a.store.now c.loop-level.invariant.0 b _ c.loop-level.invariant.1 (sym (c.siblings_are_words.ensures [] []) ∙ c.if-not-siblings_are_words.false),
     )
 
 pub returns : goal.returns

@@ -33,7 +33,7 @@ returns-then-not-few_words c =
     let a = c.args in
     let t = a.n * (a.d.arity * a.d.node_size) in
     λ D C. siblings_fail (tree a.d D C) (regular c.requires.0 D C) a.n a.c a.store.now c.requires.2 c.requires.1 _ (t + a.c * a.d.node_size - t) (omega arith)
-    (sym c.few_words.ensures ∙ not-true c.few_words.result c.if-not-few_words.true)
+    (sym c.few_words.ensures ∙ c.if-not-few_words.true)
 
 pub offset_bounds-store-behind : goal.offset_bounds-store-behind
 offset_bounds-store-behind c =
@@ -58,4 +58,4 @@ returns c =
     let t = a.n * (k * l) in
     λ D C. c.few_words-2.ensures
     ∙ siblings_rest (tree a.d D C) (regular c.requires.0 D C) a.n a.c a.store.now c.requires.2 c.requires.1 _ (t + a.c * l - t) (t + k * l - (t + a.c * l + l)) (omega arith) (omega arith)
-    (sym c.few_words.ensures ∙ not-false c.few_words.result c.if-not-few_words.false)
+    (sym c.few_words.ensures ∙ c.if-not-few_words.false)
