@@ -17,9 +17,9 @@ use Rattle.files.proofs.absorb.Goals as goal
 use Rattle.files.proofs.absorb.Goals.{After-word_bytes, In-loop-n}
 
 -- the bytes of a block
-bytes-in : (c : After-word_bytes) → c.word_bytes_lem.result * c.args.rate ≤ 84
+bytes-in : (c : After-word_bytes) → c.word_bytes.result * c.args.rate ≤ 84
 bytes-in c =
-    offset_few c.word_bytes_lem.result c.args.rate (omega (arith, c.word_bytes_lem.ensures, bytes_few)) (width_small c.args.rate c.requires.0 c.requires.6)
+    offset_few c.word_bytes.result c.args.rate (omega (arith, c.word_bytes.ensures, bytes_few)) (width_small c.args.rate c.requires.0 c.requires.6)
 
 pub overflow_mul-size : goal.overflow_mul-size
 overflow_mul-size c = omega (arith, bytes-in c)
@@ -30,12 +30,12 @@ overflow_add-blocks c =
 
 pub nonzero_div-blocks : goal.nonzero_div-blocks
 nonzero_div-blocks c =
-    mul-pos (omega (arith, c.word_bytes_lem.ensures, word_bytes_lem.some)) c.requires.5
+    mul-pos (omega (arith, c.word_bytes.ensures, word_bytes_lem.some)) c.requires.5
 
 pub overflow_add-blocks-2 : goal.overflow_add-blocks-2
 overflow_add-blocks-2 c =
     let n = length c.args.head.now + length c.args.contents.now in
-    omega (arith, c.requires.8, c.requires.9, div-le_self n (c.word_bytes_lem.result * c.args.rate))
+    omega (arith, c.requires.8, c.requires.9, div-le_self n (c.word_bytes.result * c.args.rate))
 
 pub loop-n-init : goal.loop-n-init
 loop-n-init c =
@@ -43,16 +43,16 @@ loop-n-init c =
 
 -- the blocks are the file's
 blocks-are : (c : After-word_bytes)
-    → (length c.args.head.now + length c.args.contents.now) / (c.word_bytes_lem.result * c.args.rate) + 1
+    → (length c.args.head.now + length c.args.contents.now) / (c.word_bytes.result * c.args.rate) + 1
     ≡ block_count word_bytes c.args.rate (length (message c.args.contents.now))
 blocks-are c =
-    ap₂ (λ (n b : ℕ). n / (b * c.args.rate) + 1) (message_length c.args.head.now c.args.contents.now c.requires.7) c.word_bytes_lem.ensures
+    ap₂ (λ (n b : ℕ). n / (b * c.args.rate) + 1) (message_length c.args.head.now c.args.contents.now c.requires.7) c.word_bytes.ensures
 
 -- where the block begins
-begins : (c : In-loop-n) → c.word_bytes_lem.result * c.args.rate * c.loop-n.n ≤ 8589934592
+begins : (c : In-loop-n) → c.word_bytes.result * c.args.rate * c.loop-n.n ≤ 8589934592
 begins c =
     let n = length c.args.head.now + length c.args.contents.now in
-    omega (arith, c.requires.8, c.requires.9, block_begins (c.word_bytes_lem.result * c.args.rate) c.loop-n.n n (omega arith))
+    omega (arith, c.requires.8, c.requires.9, block_begins (c.word_bytes.result * c.args.rate) c.loop-n.n n (omega arith))
 
 pub overflow_mul-size-in-loop-n : goal.overflow_mul-size-in-loop-n
 overflow_mul-size-in-loop-n c = omega (arith, begins c)
@@ -68,7 +68,7 @@ permute-requires c =
 pub overflow_add-n : goal.overflow_add-n
 overflow_add-n c =
     let n = length c.args.head.now + length c.args.contents.now in
-    omega (arith, c.loop-n-test.true, c.requires.8, c.requires.9, div-le_self n (c.word_bytes_lem.result * c.args.rate))
+    omega (arith, c.loop-n-test.true, c.requires.8, c.requires.9, div-le_self n (c.word_bytes.result * c.args.rate))
 
 pub loop-n-smaller : goal.loop-n-smaller
 loop-n-smaller c = omega (arith, c.loop-n-test.true)
@@ -78,7 +78,7 @@ loop-n-preserved c =
     let a = c.args in
     let bytes = marked a.head.now a.contents.now in
     let here : c.loop-n.n < block_count word_bytes a.rate (length (message a.contents.now)) = omega (arith, c.loop-n-test.true, blocks-are c.before) in
-    let block = ap (λ (k : ℕ). block_from word_bytes a.rate (k * a.rate * c.loop-n.n) bytes) c.word_bytes_lem.ensures
+    let block = ap (λ (k : ℕ). block_from word_bytes a.rate (k * a.rate * c.loop-n.n) bytes) c.word_bytes.ensures
     ∙ block_of_file a.head.now a.contents.now c.requires.7 word_bytes a.rate word_bytes_lem.some c.requires.5 c.loop-n.n here in
     let long = c.add_block.auto.state ∙ c.loop-n.invariant.words_of.width in
     absorbed_block c.loop-n.n c.loop-n.state here c.loop-n.invariant block c.add_block.ensures c.permute.ensures

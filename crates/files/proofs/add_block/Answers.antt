@@ -14,21 +14,21 @@ use Rattle.files.proofs.add_block.Goals as goal
 use Rattle.files.proofs.add_block.Goals.{After-word_bytes, Then-inside}
 
 -- the bytes of a block
-bytes-in : (c : After-word_bytes) → c.word_bytes_lem.result * c.args.rate ≤ 84
+bytes-in : (c : After-word_bytes) → c.word_bytes.result * c.args.rate ≤ 84
 bytes-in c =
-    offset_few c.word_bytes_lem.result c.args.rate (omega (arith, c.word_bytes_lem.ensures, bytes_few)) c.requires.1
+    offset_few c.word_bytes.result c.args.rate (omega (arith, c.word_bytes.ensures, bytes_few)) c.requires.1
 
 pub inside-requires : goal.inside-requires
 inside-requires c = (c.requires.2, omega (arith, bytes-in c))
 
 -- the block stands in the contents, with eight bytes behind it
 facts : (c : Then-inside) → (length c.args.head.now ≤ c.args.from)
-    × (c.args.from - length c.args.head.now + (c.word_bytes_lem.result * c.args.rate + 8) ≤ length c.args.contents.now)
+    × (c.args.from - length c.args.head.now + (c.word_bytes.result * c.args.rate + 8) ≤ length c.args.contents.now)
 facts c = inside_facts _ _ _ _ c.inside.ensures c.if-inside.true
 
 -- so many bytes as the definition says
-bytes-are : (c : Then-inside) → c.word_bytes_lem.result * c.args.rate ≡ word_bytes * c.args.rate
-bytes-are c = ap (λ (b : ℕ). b * c.args.rate) c.word_bytes_lem.ensures
+bytes-are : (c : Then-inside) → c.word_bytes.result * c.args.rate ≡ word_bytes * c.args.rate
+bytes-are c = ap (λ (b : ℕ). b * c.args.rate) c.word_bytes.ensures
 
 pub add_inner-requires : goal.add_inner-requires
 add_inner-requires c =
@@ -44,7 +44,7 @@ returns-then-inside c =
     let a = c.args in
     c.add_inner.ensures
     ∙ ap (λ (xs : List ℕ). add_block prime a.rate xs a.state.now)
-    (inner_block word_bytes a.rate a.from (c.word_bytes_lem.result * a.rate + 8) a.head.now a.contents.now (facts t).0 (facts t).1 (omega (arith, bytes-are t)))
+    (inner_block word_bytes a.rate a.from (c.word_bytes.result * a.rate + 8) a.head.now a.contents.now (facts t).0 (facts t).1 (omega (arith, bytes-are t)))
 
 pub overflow_mul-count : goal.overflow_mul-count
 overflow_mul-count c = omega (arith, bytes-in c)

@@ -12,9 +12,9 @@ use Rattle.files.proofs.add_edge.Goals as goal
 use Rattle.files.proofs.add_edge.Goals.{In-loop-i}
 
 -- where the word stands in its block
-offset : (c : In-loop-i) → c.word_bytes_lem.result * c.loop-i.i ≤ 84
+offset : (c : In-loop-i) → c.word_bytes-size.result * c.loop-i.i ≤ 84
 offset c =
-    offset_few c.word_bytes_lem.result c.loop-i.i (omega (arith, c.word_bytes_lem.ensures, bytes_few))
+    offset_few c.word_bytes-size.result c.loop-i.i (omega (arith, c.word_bytes-size.ensures, bytes_few))
     (omega (arith, c.requires.1))
 
 pub overflow_mul-size : goal.overflow_mul-size
@@ -41,8 +41,8 @@ bounds-state-i-in-loop-i c =
 
 pub loop-i-preserved : goal.loop-i-preserved
 loop-i-preserved c =
-    let place : c.args.from + c.word_bytes_lem.result * c.loop-i.i ≡ c.args.from + word_bytes * c.loop-i.i =
-    ap (λ (b : ℕ). c.args.from + b * c.loop-i.i) c.word_bytes_lem.ensures in
+    let place : c.args.from + c.word_bytes-size.result * c.loop-i.i ≡ c.args.from + word_bytes * c.loop-i.i =
+    ap (λ (b : ℕ). c.args.from + b * c.loop-i.i) c.word_bytes-size.ensures in
     added_word c.loop-i.i c.loop-i.state (omega arith) c.requires.0 c.loop-i.invariant
     (c.gathered-word.ensures.0 ∙ ap (λ (k : ℕ). little_endian (take word_bytes (drop k (marked c.args.head.now c.args.contents.now)))) place)
     c.added.ensures

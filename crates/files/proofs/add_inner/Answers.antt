@@ -15,24 +15,24 @@ use Rattle.files.proofs.add_inner.Goals as goal
 use Rattle.files.proofs.add_inner.Goals.{After-low_bytes-word, In-loop-i}
 
 -- where the word stands in the block, and that eight bytes stand there
-offset : (c : In-loop-i) → c.word_bytes_lem.result * c.loop-i.i ≤ 84
+offset : (c : In-loop-i) → c.word_bytes-size.result * c.loop-i.i ≤ 84
 offset c =
-    offset_few c.word_bytes_lem.result c.loop-i.i (omega (arith, c.word_bytes_lem.ensures, bytes_few)) (omega (arith, c.requires.1))
+    offset_few c.word_bytes-size.result c.loop-i.i (omega (arith, c.word_bytes-size.ensures, bytes_few)) (omega (arith, c.requires.1))
 
-eight : (c : In-loop-i) → c.word_bytes_lem.result * c.loop-i.i + 8 ≤ length c.args.bytes.now
+eight : (c : In-loop-i) → c.word_bytes-size.result * c.loop-i.i + 8 ≤ length c.args.bytes.now
 eight c =
     let before : c.loop-i.i ≤ c.args.rate = omega arith in
-    let size : c.word_bytes_lem.result * c.loop-i.i ≡ word_bytes * c.loop-i.i = ap (λ (b : ℕ). b * c.loop-i.i) c.word_bytes_lem.ensures in
+    let size : c.word_bytes-size.result * c.loop-i.i ≡ word_bytes * c.loop-i.i = ap (λ (b : ℕ). b * c.loop-i.i) c.word_bytes-size.ensures in
     omega (arith, c.requires.2, size, mul-le-mul_left word_bytes before)
 
 pub number_of-requires : goal.number_of-requires
 number_of-requires c =
     let bytes = c.args.bytes.now in
-    let at = c.word_bytes_lem.result * c.loop-i.i in
+    let at = c.word_bytes-size.result * c.loop-i.i in
     omega (arith, eight (goal.at.number_of-requires c).In-loop-i, length-drop at bytes, length-take-le (length bytes - at) (drop at bytes) (omega (arith, length-drop at bytes)))
 
 pub low_bytes-word-requires : goal.low_bytes-word-requires
-low_bytes-word-requires c = omega (arith, c.word_bytes_lem.ensures, bytes_few)
+low_bytes-word-requires c = omega (arith, c.word_bytes-size.ensures, bytes_few)
 
 pub bounds-state-i : goal.bounds-state-i
 bounds-state-i c =
@@ -40,12 +40,12 @@ bounds-state-i c =
 
 -- the word that is read
 word : (c : After-low_bytes-word)
-    → (c.low_bytes-word.result ≡ little_endian (take word_bytes (drop (c.word_bytes_lem.result * c.loop-i.i) c.args.bytes.now))) × (c.low_bytes-word.result < 256 ^ word_bytes)
+    → (c.low_bytes-word.result ≡ little_endian (take word_bytes (drop (c.word_bytes-size.result * c.loop-i.i) c.args.bytes.now))) × (c.low_bytes-word.result < 256 ^ word_bytes)
 word c =
     let a = c.args in
-    read_at_once word_bytes (c.word_bytes_lem.result * c.loop-i.i) a.bytes.now
+    read_at_once word_bytes (c.word_bytes-size.result * c.loop-i.i) a.bytes.now
     (words_by 256 a.bytes.now (λ i h. omega (arith, c.shared_slice_known-1.given i)))
-    bytes_few c.number_of_lem.ensures c.word_bytes_lem.ensures c.low_bytes-word.ensures
+    bytes_few c.number_of.ensures c.word_bytes-size.ensures c.low_bytes-word.ensures
 
 pub added-requires : goal.added-requires
 added-requires c =
@@ -58,8 +58,8 @@ bounds-state-i-in-loop-i c =
 
 pub loop-i-preserved : goal.loop-i-preserved
 loop-i-preserved c =
-    let place : c.word_bytes_lem.result * c.loop-i.i ≡ 0 + word_bytes * c.loop-i.i =
-    ap (λ (b : ℕ). b * c.loop-i.i) c.word_bytes_lem.ensures ∙ sym (zero-add (word_bytes * c.loop-i.i)) in
+    let place : c.word_bytes-size.result * c.loop-i.i ≡ 0 + word_bytes * c.loop-i.i =
+    ap (λ (b : ℕ). b * c.loop-i.i) c.word_bytes-size.ensures ∙ sym (zero-add (word_bytes * c.loop-i.i)) in
     added_word c.loop-i.i c.loop-i.state (omega arith) c.requires.0 c.loop-i.invariant
     ((word c.before.before).0 ∙ ap (λ (k : ℕ). little_endian (take word_bytes (drop k c.args.bytes.now))) place)
     c.added.ensures

@@ -6,7 +6,7 @@ use Rattle.files.proofs.MessageBytes.{marked, Gathered, none_gathered, one_gathe
 use Rattle.files.proofs.message.gathered.Goals as goal
 
 pub loop-i-init : goal.loop-i-init
-loop-i-init c = none_gathered c.word_bytes_lem.result c.word_bytes_lem.ensures
+loop-i-init c = none_gathered c.word_bytes-i.result c.word_bytes-i.ensures
 
 pub overflow_mul-word : goal.overflow_mul-word
 overflow_mul-word c =
