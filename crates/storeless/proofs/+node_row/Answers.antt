@@ -1,6 +1,6 @@
 use Rattle.std.proofs.Common.{◌≡◌, ◌-◌, suc, arith}
 use Rattle.trees.proofs.Shapes.{arity_small, node_small}
-use Rattle.storeless.proofs.Recursion.{at_leaf, at_leaves, at_row, place_small, row_fits, node_leaf, node_row, row_leaves, refusal_none, row_more}
+use Rattle.storeless.proofs.Recursion.{at_leaf, at_leaves, at_row, at_fewer, at_last, place_small, row_fits, in_row, node_leaf, node_row, row_leaves, refusal_none, row_more}
 use Rattle.storeless.proofs.+node_row.Goals as goal
 
 -- a node: a leaf
@@ -47,8 +47,26 @@ row-returns-then-n-eq0 t c =
     refusal_none a.d a.diagonal.now a.constants.now a.leaves.now a.level a.first _ c.if-n-eq0.true
 
 -- or its nodes but the last, and the last
+pub row-row-before-requires : goal.row-row-before-requires
+row-row-before-requires t c =
+    let a = c.args in
+    let e : a.n ≡ suc (a.n - 1) = omega arith in
+    (omega (arith, c.decreases), at_fewer (a.n - 1) e c.requires)
+
 pub row-overflow_add-first : goal.row-overflow_add-first
 row-overflow_add-first t c = omega (arith, place_small c.requires)
+
+pub row-node-x-requires : goal.row-node-x-requires
+row-node-x-requires t c =
+    let a = c.args in
+    let e : a.n ≡ suc (a.n - 1) = omega arith in
+    (omega (arith, c.decreases), at_last (a.n - 1) e c.requires)
+
+pub row-put_node-requires : goal.row-put_node-requires
+row-put_node-requires t c =
+    let a = c.args in
+    let e : a.n ≡ suc (a.n - 1) = omega arith in
+    (in_row (a.n - 1) e c.requires, node_small c.requires.set.numbers)
 
 pub row-returns : goal.row-returns
 row-returns t c =
