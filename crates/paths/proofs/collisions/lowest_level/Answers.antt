@@ -99,7 +99,7 @@ loop-j-preserved c =
           c.path_row-row.result c.path_row-other_row.result c.compress_row-next.result c.compress_row-other_next.result
           (c.path_row-row.ensures a.diagonal.now a.constants.now) (c.path_row-other_row.ensures a.diagonal.now a.constants.now) c.compress_row-next.ensures c.compress_row-other_next.ensures
           c.collide.result c.collide.ensures
-          (omega (arith, c.compress_row-next.type-inv)) (omega (arith, c.compress_row-other_next.type-inv)) c.if-collide.false,
+          (omega (arith, c.compress_row-next.type_inv)) (omega (arith, c.compress_row-other_next.type_inv)) c.if-collide.false,
     )
 
 pub returns : goal.returns

@@ -22,20 +22,17 @@ compress-requires c =
     let A = passed (goal.at.compress-requires c).Else-number-ne0 in
     (A.state.width, A.node_fits, A.state.half_some, A.state.half_few, A.state.partial_few, A.state.constants, A.state.long, A.node_long)
 
-abbrev held : After-slice_known-2-1 → Else-number-ne0
-held c = c.before.before.before.before.before.before.before.before.before
-
 pub shape_of-node : goal.shape_of-node
 shape_of-node c =
     ap length c.compress.ensures
-    ∙ ((claims _ prime_field).sizes.compression _ _ _ _ _ _ _ (passed (held c)).state.width (passed (held c)).state.long
-    (passed (held c)).node_fits).width
-    ∙ sym (passed (held c)).node_long
+    ∙ ((claims _ prime_field).sizes.compression _ _ _ _ _ _ _ (passed (goal.at.shape_of-node c).Else-number-ne0).state.width (passed (goal.at.shape_of-node c).Else-number-ne0).state.long
+    (passed (goal.at.shape_of-node c).Else-number-ne0).node_fits).width
+    ∙ sym (passed (goal.at.shape_of-node c).Else-number-ne0).node_long
 
 pub returns : goal.returns
 unfolding outcome_reply compress_reply compressed compress_under
 returns c =
     left_as
     (done_equations (compress_refusals _ _ _) [] _ _ (compression_numbered _ _ _)
-    (sym (held c).before.refusal_of_compression.ensures ∙ (held c).if1.false))
+    (sym c.refusal_of_compression-number.ensures ∙ c.if-number-ne0.false))
     c.compress.ensures

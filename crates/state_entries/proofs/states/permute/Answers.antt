@@ -22,17 +22,14 @@ permute-requires c =
     let A = passed (goal.at.permute-requires c).Else-number-ne0 in
     (A.width, A.half_some, A.half_few, A.partial_few, A.constants, A.long)
 
-abbrev held : After-slice_known-2-1 → Else-number-ne0
-held c = c.before.before.before.before.before.before.before.before.before
-
 pub shape_of-state : goal.shape_of-state
 shape_of-state c =
     ap length c.permute.ensures
-    ∙ ((claims _ prime_field).sizes.permutation _ _ _ _ _ _ (passed (held c)).width (passed (held c)).long).width ∙ sym (passed (held c)).long
+    ∙ ((claims _ prime_field).sizes.permutation _ _ _ _ _ _ (passed (goal.at.shape_of-state c).Else-number-ne0).width (passed (goal.at.shape_of-state c).Else-number-ne0).long).width ∙ sym (passed (goal.at.shape_of-state c).Else-number-ne0).long
 
 pub returns : goal.returns
 unfolding outcome_reply state_reply permuted permute_under
 returns c =
     left_as
-    (done_equations (state_refusals _ _) [] _ _ (state_numbered _ _) (sym (held c).before.refusal_of_state.ensures ∙ (held c).if1.false))
+    (done_equations (state_refusals _ _) [] _ _ (state_numbered _ _) (sym c.refusal_of_state-number.ensures ∙ c.if-number-ne0.false))
     c.permute.ensures

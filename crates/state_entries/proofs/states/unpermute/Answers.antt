@@ -29,7 +29,7 @@ places c = search rules
 
 pub unpermute-requires : goal.unpermute-requires
 unpermute-requires c =
-    let A = passed c.before.before.before.before.before.before in
+    let A = passed (goal.at.unpermute-requires c).Else-number-ne0 in
     record {
       width = A.width;
       some_full = A.half_some;
@@ -39,33 +39,27 @@ unpermute-requires c =
       state = state_of _ _ _ positive A.long A.words;
     }
 
-abbrev known : After-slice_known-2-1 → After-struct_known-1
-known c = c.before.before.before.before.before.before.before.before
-
-abbrev held : After-slice_known-2-1 → Else-number-ne0
-held c = (known c).before
-
 -- what is kept is D's own, so that what is made by it is the inverse permutation
 own_state : (s : ParameterSet) (xs : List ℕ) {ys : List ℕ} → Accepted s xs → length s.diagonal ≡ 12
-    → ys ≡ unpermute_by (prime_of s) s.width (s.full_rounds / 2) s.partial_rounds s.inverses-1 s.total_inverse s.constants-1 xs
+    → ys ≡ unpermute_by (prime_of s) s.width (s.full_rounds / 2) s.partial_rounds s.inverses s.total_inverse s.constants xs
     → ys ≡ unpermute_under s xs
 unfolding unpermute_under
 own_state s xs A long e =
     e
-    ∙ ap (λ (k : ℕ). unpermute_by (prime_of s) s.width (s.full_rounds / 2) s.partial_rounds s.inverses-1 k s.constants-1 xs) A.total
-    ∙ own s.width (s.full_rounds / 2) s.partial_rounds s.diagonal s.inverses-1 s.constants-1 xs (A.diagonal long).words A.inverses-1 A.long
+    ∙ ap (λ (k : ℕ). unpermute_by (prime_of s) s.width (s.full_rounds / 2) s.partial_rounds s.inverses k s.constants xs) A.total
+    ∙ own s.width (s.full_rounds / 2) s.partial_rounds s.diagonal s.inverses s.constants xs (A.diagonal long).words A.inverses A.long
 
 pub shape_of-state : goal.shape_of-state
 unfolding unpermute_under
 shape_of-state c =
-    let A = passed (held c) in
-    ap length (own_state _ _ A (places (known c)) c.unpermute.ensures)
-    ∙ (((claims _ prime_field).invertible.permutation _ _ _ _ _ A.width (A.diagonal (places (known c)))).from _ (state_of _ _ _ positive A.long A.words)).width
+    let A = passed (goal.at.shape_of-state c).Else-number-ne0 in
+    ap length (own_state _ _ A (places (goal.at.shape_of-state c).After-struct_known-1) c.unpermute.ensures)
+    ∙ (((claims _ prime_field).invertible.permutation _ _ _ _ _ A.width (A.diagonal (places (goal.at.shape_of-state c).After-struct_known-1))).from _ (state_of _ _ _ positive A.long A.words)).width
     ∙ sym A.long
 
 pub returns : goal.returns
 unfolding outcome_reply state_reply unpermuted
 returns c =
     left_as
-    (done_equations (state_refusals _ _) [] _ _ (state_numbered _ _) (sym (held c).before.refusal_of_state.ensures ∙ (held c).if1.false))
-    (own_state _ _ (passed (held c)) (places (known c)) c.unpermute.ensures)
+    (done_equations (state_refusals _ _) [] _ _ (state_numbered _ _) (sym c.refusal_of_state-number.ensures ∙ c.if-number-ne0.false))
+    (own_state _ _ (passed (goal.at.returns c).Else-number-ne0) (places (goal.at.returns c).After-struct_known-1) c.unpermute.ensures)
