@@ -17,7 +17,7 @@ REFUSED = re.compile(r"^rt: must-fail (\w+)/(\S+)\.edit: refused, as it must be:
 FACTS = [re.compile(fact) for fact in (
     r"it is not proved that ",
     r"(as printed|computed as far as they go), the two (types|sides|values|indices) (differ|first differ|are)\b",
-    r"expected type `",
+    r"expected type `(?!tie\.)",
     r"`omega`: the (goal|part `[^`]+` of the goal) does not follow from what it read\. All of that holds, and the (goal|part) fails, at ",
     r"give a proof of that as the last argument, `(rw|simp) L t`",
     r"`[^`]*`\s+≟ `[^`]*`:?\s+does not hold\b",
