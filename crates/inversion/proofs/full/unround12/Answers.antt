@@ -15,22 +15,20 @@ use Rattle.inversion.proofs.Rounds.{fewer_words}
 use Rattle.inversion.proofs.full.unround12.Goals as goal
 use Rattle.inversion.proofs.full.unround12.Goals.{After-block_at-3, After-put_block, After-put_block-2, After-put_block-3, After-seventh_roots12-r, After-unexternal12-x}
 
--- the blocks that are read are the state
-whole : (c : After-block_at-3) → c.block_at.result ++ c.block_at-2.result ++ c.block_at-3.result ≡ c.args.state.now
-whole c =
-    whole_three c.args.state.now c.block_at.result c.block_at-2.result c.block_at-3.result c.requires.0 c.block_at.ensures c.block_at-2.ensures c.block_at-3.ensures
-
 pub unexternal12-x-requires : goal.unexternal12-x-requires
 unexternal12-x-requires c =
     (read_words_lem positive 0 c.requires.3 c.block_at.ensures, read_words_lem positive 4 c.requires.3 c.block_at-2.ensures, read_words_lem positive 8 c.requires.3 c.block_at-3.ensures)
 
 -- M_E is undone in them
 undone : (c : After-unexternal12-x) → flat 3 c.unexternal12-x.result ≡ unexternal prime c.args.state.now
-undone c = c.unexternal12-x.ensures ∙ ap (unexternal prime) (whole c.before)
+undone c =
+    c.unexternal12-x.ensures ∙ ap (unexternal prime) (whole_three c.args.state.now c.block_at.result c.block_at-2.result c.block_at-3.result c.requires.0 c.block_at.ensures c.block_at-2.ensures c.block_at-3.ensures)
 
 -- and their roots are taken
 roots : (c : After-seventh_roots12-r) → flat 3 c.seventh_roots12-r.result ≡ seventh_roots prime (unexternal prime c.args.state.now)
-roots c = c.seventh_roots12-r.ensures ∙ ap (seventh_roots prime) (undone c.before)
+roots c =
+    c.seventh_roots12-r.ensures
+    ∙ ap (seventh_roots prime) (c.unexternal12-x.ensures ∙ ap (unexternal prime) (whole_three c.args.state.now c.block_at.result c.block_at-2.result c.block_at-3.result c.requires.0 c.block_at.ensures c.block_at-2.ensures c.block_at-3.ensures))
 
 root_words : (c : After-seventh_roots12-r) → Words prime (flat 3 c.seventh_roots12-r.result)
 root_words c = subst (Words prime) (sym (roots c)) (roots_words _)
@@ -58,10 +56,18 @@ written : (c : After-put_block) → Written (length c.args.state.now) 4 ([] ++ f
 written c = written_more c.less.result c.put_block.new.state (written_none c.args.state.now) (omega arith) (omega (arith, c.requires.0)) c.put_block.ensures
 
 written2 : (c : After-put_block-2) → Written (length c.args.state.now) 8 (([] ++ four c.less.result) ++ four c.less-2.result) c.put_block-2.new.state
-written2 c = written_more c.less-2.result c.put_block-2.new.state (written c.before.before.before.before.before.before) (omega arith) (omega (arith, c.requires.0)) c.put_block-2.ensures
+written2 c =
+    let first : Written (length c.args.state.now) 4 ([] ++ four c.less.result) c.put_block.new.state =
+    written_more c.less.result c.put_block.new.state (written_none c.args.state.now) (omega arith) (omega (arith, c.requires.0)) c.put_block.ensures in
+    written_more c.less-2.result c.put_block-2.new.state first (omega arith) (omega (arith, c.requires.0)) c.put_block-2.ensures
 
 written3 : (c : After-put_block-3) → Written (length c.args.state.now) 12 ((([] ++ four c.less.result) ++ four c.less-2.result) ++ four c.less-3.result) c.put_block-3.new.state
-written3 c = written_more c.less-3.result c.put_block-3.new.state (written2 c.before.before.before.before.before.before) (omega arith) (omega (arith, c.requires.0)) c.put_block-3.ensures
+written3 c =
+    let first : Written (length c.args.state.now) 4 ([] ++ four c.less.result) c.put_block.new.state =
+    written_more c.less.result c.put_block.new.state (written_none c.args.state.now) (omega arith) (omega (arith, c.requires.0)) c.put_block.ensures in
+    let second : Written (length c.args.state.now) 8 (([] ++ four c.less.result) ++ four c.less-2.result) c.put_block-2.new.state =
+    written_more c.less-2.result c.put_block-2.new.state first (omega arith) (omega (arith, c.requires.0)) c.put_block-2.ensures in
+    written_more c.less-3.result c.put_block-3.new.state second (omega arith) (omega (arith, c.requires.0)) c.put_block-3.ensures
 
 pub put_block-requires : goal.put_block-requires
 put_block-requires c =

@@ -26,11 +26,17 @@ block_words c = subst (Words prime) (sym (whole c)) c.requires.3
 
 -- M_E is undone in it
 undone : (c : After-unm4) → four c.unm4.result ≡ unexternal prime c.args.state.now
-undone c = unexternal_one c.block_at.result c.unm4.result (omega arith) (omega arith) c.unm4.ensures ∙ ap (unexternal prime) (whole c.before)
+undone c =
+    unexternal_one c.block_at.result c.unm4.result (omega arith) (omega arith) c.unm4.ensures
+    ∙ ap (unexternal prime) (c.block_at.ensures ∙ take_all 4 c.args.state.now (omega (arith, c.requires.0)))
 
 -- and its roots are taken
 roots : (c : After-seventh_roots4-r) → four c.seventh_roots4-r.result ≡ seventh_roots prime (unexternal prime c.args.state.now)
-roots c = c.seventh_roots4-r.ensures ∙ ap (seventh_roots prime) (undone c.before)
+roots c =
+    c.seventh_roots4-r.ensures
+    ∙ ap (seventh_roots prime)
+    (unexternal_one c.block_at.result c.unm4.result (omega arith) (omega arith) c.unm4.ensures
+    ∙ ap (unexternal prime) (c.block_at.ensures ∙ take_all 4 c.args.state.now (omega (arith, c.requires.0))))
 
 root_words : (c : After-seventh_roots4-r) → Words prime (four c.seventh_roots4-r.result)
 root_words c = subst (Words prime) (sym (roots c)) (roots_words _)
