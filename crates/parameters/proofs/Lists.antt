@@ -1,10 +1,9 @@
 -- The test of words four a turn.
 use mathlib.Core.Path.{◌≡◌, sym, ap, ◌∙◌}
-use mathlib.Core.Bool.{Bool, true, false, not, ◌&&◌}
+use mathlib.Core.Bool.{Bool, true, false, ◌&&◌}
 use mathlib.Core.List.{List}
 use Prim.Native.Nat.{ℕ, ◌+◌, ◌≤◌}
 use lib.ListN.{length, drop}
-use borrow.Author.Tests.{not-true, not-false}
 use Rattle.modular.specs.Arithmetic.{all_words}
 use Rattle.modular.proofs.Fours.{four_at}
 use Rattle.modular.proofs.Undecided.{Undecided}
@@ -15,8 +14,8 @@ module _ (p : ℕ) (xs : List ℕ) (i : ℕ) (U : Undecided (all_words p) xs i) 
   four_left : {r : Bool} → b ≡ r → all_words p xs ≡ (r && all_words p (drop (i + 4) xs))
   four_left f = U.1 ∙ words_four p xs i h ∙ ap (λ (r : Bool). r && all_words p (drop (i + 4) xs)) (sym (e ∙ ap (λ (q : ℕ). all_words q (four_at xs i)) o) ∙ f)
 
-  pub four_fail : not b ≡ true → all_words p xs ≡ false
-  four_fail f = four_left (not-true b f)
+  pub four_fail : b ≡ false → all_words p xs ≡ false
+  four_fail f = four_left f
 
-  pub four_pass : not b ≡ false → Undecided (all_words p) xs (i + 4)
-  four_pass f = (h, four_left (not-false b f))
+  pub four_pass : b ≡ true → Undecided (all_words p) xs (i + 4)
+  four_pass f = (h, four_left f)

@@ -30,8 +30,8 @@ pub lengths_unlike : (xs ys : List ℕ) → (length xs ≡ length ys → ⊥) �
 lengths_unlike xs ys n = ne_same xs ys (λ e. n (ap length e))
 
 -- u, the code's answer to whether two rows are alike, and r, to whether their nodes are
-pub rows_differ : (u s t r : Bool) → u ≡ s → not u ≡ true → r ≡ t → r ≡ (not s && t)
-rows_differ u s t r d e f = f ∙ sym (ap (λ (b : Bool). b && t) (ap not (sym d) ∙ e))
+pub rows_differ : (u s t r : Bool) → u ≡ s → u ≡ false → r ≡ t → r ≡ (not s && t)
+rows_differ u s t r d e f = f ∙ sym (ap (λ (b : Bool). not b && t) (sym d ∙ e))
 
-pub rows_alike : (u s t : Bool) → u ≡ s → not u ≡ false → false ≡ (not s && t)
-rows_alike u s t d e = sym (ap (λ (b : Bool). b && t) (ap not (sym d) ∙ e))
+pub rows_alike : (u s t : Bool) → u ≡ s → u ≡ true → false ≡ (not s && t)
+rows_alike u s t d e = sym (ap (λ (b : Bool). not b && t) (sym d ∙ e))

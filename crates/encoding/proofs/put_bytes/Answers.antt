@@ -26,4 +26,28 @@ pub returns : goal.returns
 returns c =
     let a = c.args in
     let e : c.loop-i.i ≡ length a.bytes.now = omega arith in
-    (omega arith, c.loop-i.invariant.2 ∙ ap (paste a.output.now a.at a.bytes.now) e ∙ sym (put_paste a.output.now a.at a.bytes.now))
+    record {
+      value = omega arith;
+      output_after = c.loop-i.invariant.2 ∙ ap (paste a.output.now a.at a.bytes.now) e ∙ sym (put_paste a.output.now a.at a.bytes.now);
+    }
+
+pub bounds-bytes-i : goal.bounds-bytes-i
+bounds-bytes-i c = omega arith
+
+pub overflow_add-output : goal.overflow_add-output
+overflow_add-output c = omega arith
+
+pub bounds-output-at : goal.bounds-output-at
+bounds-output-at c = omega arith
+
+pub overflow_add-i : goal.overflow_add-i
+overflow_add-i c = omega arith
+
+pub loop-i-smaller : goal.loop-i-smaller
+loop-i-smaller c = omega arith
+
+pub overflow_add-result : goal.overflow_add-result
+overflow_add-result c = omega arith
+
+pub shape_of-output : goal.shape_of-output
+shape_of-output c = omega arith

@@ -27,3 +27,36 @@ returns c =
     let last = c.times4.result ∷ c.times4-2.result ∷ c.times4-3.result ∷ [] in
     squared_times c.loop-i.i a.n (flat 3 a.y) (flat 3 last) (omega arith) c.loop-i.invariant.2
     (products_three last c.loop-i.r a.y c.times4.ensures c.times4-2.ensures c.times4-3.ensures)
+
+pub bounds-r-0 : goal.bounds-r-0
+bounds-r-0 c = omega arith
+
+pub bounds-r-1 : goal.bounds-r-1
+bounds-r-1 c = omega arith
+
+pub bounds-r-2 : goal.bounds-r-2
+bounds-r-2 c = omega arith
+
+pub overflow_add-i : goal.overflow_add-i
+overflow_add-i c = omega arith
+
+pub loop-i-smaller : goal.loop-i-smaller
+loop-i-smaller c = omega arith
+
+pub bounds-r-0-2 : goal.bounds-r-0-2
+bounds-r-0-2 c = omega arith
+
+pub bounds-y-0 : goal.bounds-y-0
+bounds-y-0 c = omega arith
+
+pub bounds-r-1-2 : goal.bounds-r-1-2
+bounds-r-1-2 c = omega arith
+
+pub bounds-y-1 : goal.bounds-y-1
+bounds-y-1 c = omega arith
+
+pub bounds-r-2-2 : goal.bounds-r-2-2
+bounds-r-2-2 c = omega arith
+
+pub bounds-y-2 : goal.bounds-y-2
+bounds-y-2 c = omega arith

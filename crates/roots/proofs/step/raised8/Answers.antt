@@ -27,3 +27,27 @@ returns c =
     let last = c.times4.result ∷ c.times4-2.result ∷ [] in
     squared_times c.loop-i.i a.n (flat 2 a.y) (flat 2 last) (omega arith) c.loop-i.invariant.2
     (products_two last c.loop-i.r a.y c.times4.ensures c.times4-2.ensures)
+
+pub bounds-r-0 : goal.bounds-r-0
+bounds-r-0 c = omega arith
+
+pub bounds-r-1 : goal.bounds-r-1
+bounds-r-1 c = omega arith
+
+pub overflow_add-i : goal.overflow_add-i
+overflow_add-i c = omega arith
+
+pub loop-i-smaller : goal.loop-i-smaller
+loop-i-smaller c = omega arith
+
+pub bounds-r-0-2 : goal.bounds-r-0-2
+bounds-r-0-2 c = omega arith
+
+pub bounds-y-0 : goal.bounds-y-0
+bounds-y-0 c = omega arith
+
+pub bounds-r-1-2 : goal.bounds-r-1-2
+bounds-r-1-2 c = omega arith
+
+pub bounds-y-1 : goal.bounds-y-1
+bounds-y-1 c = omega arith

@@ -1,6 +1,6 @@
 use mathlib.Core.Path.{◌≡◌}
 use mathlib.Core.List.{[], ◌∷◌}
-use mathlib.Core.Logic.{⊎_elim, inl, inr}
+use mathlib.Core.Logic.{inl, inr}
 use Prim.Native.Nat.{◌-◌, ◌≤◌}
 use native.Mathlib.Omega.{arith}
 use borrow.Author.Rules.{rules}
@@ -9,6 +9,7 @@ use Rattle.blocks.specs.Blocks.{flat}
 use Rattle.roots.proofs.Chain.{are_roots, residues_two}
 use Rattle.roots.proofs.Steps.{Reached, reached_none, reached_more, reached_root}
 use Rattle.roots.proofs.step.seventh_roots8.Goals as goal
+use Rattle.roots.proofs.step.seventh_roots8.Goals.{then-k-eq4, else-k-eq4}
 
 pub loop-k-init : goal.loop-k-init
 loop-k-init c = (omega arith, omega arith, reached_none (flat 2) c.args.y)
@@ -19,7 +20,7 @@ loop-k-preserved c =
       omega arith,
       omega arith,
       reached_more (flat 2) l.k l.invariant.2 c.factor8-factor.result c.raised8-next.result c.if-k-eq4.ten c.factor8-factor.ensures c.raised8-next.ensures
-          (⊎_elim (λ w. inl (w.0.taken, w.1)) (λ w. inr (w.0.left, w.1)) c.if-k-eq4.branch),
+          (elim c.if-k-eq4.branch [ then-k-eq4 w ↦ inl (w.if-k-eq4.true, w.ten-is) | else-k-eq4 w ↦ inr (w.if-k-eq4.false, w.ten-is) ]),
     )
 
 pub returns : goal.returns
@@ -28,3 +29,21 @@ returns c =
     let words = c.words4.result ∷ c.words4-2.result ∷ [] in
     are_roots (flat 2 r) (flat 2 words) c.requires (reached_root (flat 2) c.loop-k.k c.loop-k.invariant.2 (omega arith))
     (residues_two words r c.words4.ensures c.words4-2.ensures)
+
+pub offset_bounds-squarings-k : goal.offset_bounds-squarings-k
+offset_bounds-squarings-k c = omega arith
+
+pub bounds-squarings-k : goal.bounds-squarings-k
+bounds-squarings-k c = omega arith
+
+pub overflow_add-k : goal.overflow_add-k
+overflow_add-k c = omega arith
+
+pub loop-k-smaller : goal.loop-k-smaller
+loop-k-smaller c = omega arith
+
+pub bounds-r-0 : goal.bounds-r-0
+bounds-r-0 c = omega arith
+
+pub bounds-r-1 : goal.bounds-r-1
+bounds-r-1 c = omega arith

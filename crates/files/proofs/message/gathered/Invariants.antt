@@ -1,0 +1,12 @@
+use mathlib.Core.Path.{◌∙◌}
+use native.Mathlib.Omega.{arith}
+use Rattle.fields.specs.Prime.{word_bytes}
+use Rattle.fields.proofs.Prime.{bytes_few}
+use Rattle.files.proofs.MessageBytes.{marked, Gathered, none_gathered, one_gathered, room, all_gathered}
+use Rattle.files.proofs.message.gathered.Given as goal
+
+abbrev pub invariant-loop-i : goal.invariant-loop-i
+invariant-loop-i l = Gathered word_bytes l.at (marked l.head l.contents) l.i l.word
+
+abbrev pub decreases-loop-i : goal.decreases-loop-i
+decreases-loop-i l = l.i

@@ -1,0 +1,43 @@
+use mathlib.Core.Path.{◌≡◌, ap, ◌∙◌}
+use native.Mathlib.Omega.{arith}
+use lib.ListN.{length}
+use Rattle.modular.proofs.Congruence.{eq≈, trans≈}
+use Rattle.fields.specs.Prime.{prime}
+use Rattle.fields.proofs.Prime.{positive}
+use Rattle.poseidon2.specs.Residues.{residues}
+use Rattle.poseidon2.proofs.Words.{below}
+use Rattle.inversion.proofs.Sums.{dot_from, dot_none, dot_all, dot_more}
+use Rattle.inversion.proofs.internal.weighted_sum.Goals as goal
+
+pub loop-i-init : goal.loop-i-init
+loop-i-init c =
+    let a = c.args in
+    (omega arith, c.requires.1, dot_none a.inverses.now (residues prime a.state.now) (length a.state.now))
+
+pub lazy_sum-total-requires : goal.lazy_sum-total-requires
+lazy_sum-total-requires c = rw c.residue.ensures (below positive _)
+
+pub loop-i-preserved : goal.loop-i-preserved
+loop-i-preserved c =
+    let a = c.args in
+    (omega arith, omega arith, dot_more a.inverses.now (residues prime a.state.now) (length a.state.now) c.loop-i.i (omega arith) c.loop-i.invariant.0 c.loop-i.invariant.2 c.weighted_block.ensures c.residue.ensures c.lazy_sum-total.ensures)
+
+pub returns : goal.returns
+returns c =
+    let a = c.args in
+    let n = length a.state.now in
+    let e : c.loop-i.i ≡ 0 = omega arith in
+    let ys = residues prime a.state.now in
+    trans≈ c.loop-i.invariant.2 (eq≈ (ap (dot_from a.inverses.now ys n) e ∙ dot_all a.inverses.now ys n))
+
+pub overflow_sub-i : goal.overflow_sub-i
+overflow_sub-i c = omega arith
+
+pub weighted_block-requires : goal.weighted_block-requires
+weighted_block-requires c = (omega arith, omega arith)
+
+pub residue-requires : goal.residue-requires
+residue-requires c = omega arith
+
+pub loop-i-smaller : goal.loop-i-smaller
+loop-i-smaller c = omega arith

@@ -1,0 +1,18 @@
+-- The loop's invariant: the products of the words passed.
+use mathlib.Core.Path.{◌≡◌, refl, ap, subst}
+use Prim.Native.Nat.{ℕ, ◌+◌, ◌*◌, ◌-◌, ◌≤◌}
+use native.Mathlib.Omega.{arith}
+use borrow.Author.Rules.{rules}
+use lib.ListN.{length}
+use Rattle.modular.proofs.Congruence.{eq≈, trans≈}
+use Rattle.fields.specs.Prime.{prime}
+use Rattle.fields.proofs.Prime.{prime_field}
+use Rattle.kept.specs.Products.{ProductsOf}
+use Rattle.kept.proofs.Multiplying.{none_made, made_more}
+use Rattle.kept.proofs.products_of.Given as goal
+
+abbrev pub invariant-loop-i : goal.invariant-loop-i
+invariant-loop-i l = (l.i ≤ length l.diagonal) × ProductsOf prime l.diagonal l.i (record { before = l.before; all = l.all; scaled = l.scaled })
+
+abbrev pub decreases-loop-i : goal.decreases-loop-i
+decreases-loop-i l = length l.diagonal - l.i

@@ -1,0 +1,14 @@
+use Prim.Native.Nat.{◌-◌}
+use native.Mathlib.Omega.{arith}
+use lib.ListN.{take}
+use borrow.Author.Rules.{rules}
+use Rattle.modular.specs.Goldilocks.{p}
+use Rattle.blocks.specs.Blocks.{four}
+use Rattle.blocks.proofs.Turns.{Going, partial_none, partial_turn, partial_end}
+use Rattle.permutation.proofs.rounds.partial_rounds4.Given as goal
+
+abbrev pub invariant-loop-i : goal.invariant-loop-i
+invariant-loop-i l = Going p (take 4 l.diagonal) l.constants l.at l.n (four l.initial.s) l.i (four l.s)
+
+abbrev pub decreases-loop-i : goal.decreases-loop-i
+decreases-loop-i l = l.n - l.i

@@ -1,0 +1,25 @@
+use Prim.Native.Nat.{◌-◌}
+use native.Mathlib.Omega.{arith}
+use lib.ListN.{take}
+use borrow.Author.Rules.{rules}
+use Rattle.modular.specs.Goldilocks.{p}
+use Rattle.blocks.specs.Blocks.{flat}
+use Rattle.blocks.proofs.Turns.{Going, partial_none, partial_turn, partial_end}
+use Rattle.permutation.proofs.rounds.partial_rounds8.Goals as goal
+
+pub loop-i-preserved : goal.loop-i-preserved
+loop-i-preserved c =
+    partial_turn p c.loop-i.invariant (omega arith) c.next_constant-in-loop-i.ensures.0 c.partial8-r.ensures
+
+pub returns : goal.returns
+returns c =
+    partial_end p c.loop-i.invariant _ (omega arith) c.sum.ensures c.next_constant.ensures.0
+
+pub loop-i-init : goal.loop-i-init
+loop-i-init c = partial_none p _ _ _ _ _
+
+pub overflow_add-i : goal.overflow_add-i
+overflow_add-i c = omega arith
+
+pub loop-i-smaller : goal.loop-i-smaller
+loop-i-smaller c = omega arith

@@ -1,0 +1,6 @@
+use borrow.Author.Rules.{rules}
+use Rattle.records.proofs.Listed.{record_at_lem}
+use Rattle.records.proofs.listing.record_at.Goals as goal
+
+pub returns : goal.returns
+returns c = record_at_lem _ _

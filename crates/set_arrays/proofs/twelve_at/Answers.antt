@@ -1,0 +1,8 @@
+use mathlib.Core.Path.{◌∙◌}
+use borrow.Author.Rules.{rules}
+use Rattle.set_arrays.proofs.Begun.{part_over_zeros}
+use Rattle.set_arrays.proofs.twelve_at.Goals as goal
+
+pub returns : goal.returns
+returns c =
+    c.copy_words.ensures ∙ part_over_zeros 12 c.args.from c.args.numbers.now c.requires

@@ -1,0 +1,31 @@
+use mathlib.Core.Path.{sym, ap, ◌∙◌}
+use mathlib.Core.Bool.{not}
+use borrow.Author.Rules.{rules}
+use borrow.Author.Tests.{eq-eqb, ne_eqb, not-true, not-false}
+use Rattle.parameters.proofs.Accepted.{set-numbered}
+use Rattle.state_entries.specs.Permutation.{state_refusals}
+use Rattle.refusals.proofs.LengthsAndWords.{at_10, at_12, at_none}
+use Rattle.state_entries.proofs.AcceptedStates.{set_first}
+use Rattle.state_entries.proofs.states.refusal_of_state.Goals as goal
+
+pub returns-then-number-ne0 : goal.returns-then-number-ne0
+returns-then-number-ne0 c =
+    let e = c.refusal_of-number.ensures in
+    e ∙ sym (set_first _ _ (λ z. c.if-number-ne0.true (e ∙ z)))
+
+pub returns-then-state-set : goal.returns-then-state-set
+unfolding state_refusals
+returns-then-state-set c =
+    sym (at_10 _ _ (set-numbered _) _ _ (sym c.refusal_of-number.ensures ∙ c.if-number-ne0.false) (ap not (ne_eqb _ _ c.if-state-set.true)))
+
+pub returns-then-not-all_words : goal.returns-then-not-all_words
+unfolding state_refusals
+returns-then-not-all_words c =
+    sym (at_12 _ _ (set-numbered _) _ _ (sym c.refusal_of-number.ensures ∙ c.if-number-ne0.false) (ap not (eq-eqb _ _ c.if-state-set.false))
+    (sym c.all_words.ensures ∙ c.if-not-all_words.true))
+
+pub returns : goal.returns
+unfolding state_refusals
+returns c =
+    sym (at_none _ _ (set-numbered _) _ _ (sym c.refusal_of-number.ensures ∙ c.if-number-ne0.false) (ap not (eq-eqb _ _ c.if-state-set.false))
+    (sym c.all_words.ensures ∙ c.if-not-all_words.false))

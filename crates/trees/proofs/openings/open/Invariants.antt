@@ -1,0 +1,24 @@
+-- The siblings of the levels below are copied.
+use mathlib.Core.Path.{◌≡◌, sym, ap, ◌∙◌}
+use mathlib.Core.List.{[]}
+use Prim.Native.Nat.{ℕ, ◌*◌, ◌-◌, ◌^◌, ◌<◌}
+use native.Mathlib.Nat.{zero-mul}
+use native.Mathlib.Omega.{arith}
+use lib.ListN.{length, take}
+use lib.Seq.{take_all}
+use Rattle.merkle.specs.Numbering.{gather}
+use Rattle.merkle.proofs.Numbering.{opening_gather}
+use Rattle.merkle.proofs.Openings.{but_one}
+use Rattle.trees.specs.Shapes.{tree}
+use Rattle.trees.proofs.Shapes.{countable, regular, width_small}
+use Rattle.trees.proofs.Ascent.{Over, over_leaf, own_place, over_row, over_small, over_next}
+use Rattle.trees.proofs.Siblings.{gather_none, level_inside, level_length, level_copied, opening_any}
+use Rattle.trees.proofs.openings.open.Given as goal
+
+abbrev pub invariant-loop-level : goal.invariant-loop-level
+invariant-loop-level l = (Over l.d [] [] (length l.store) l.place l.level l.number)
+    × (length l.siblings ≡ l.d.height * ((l.d.arity - 1) * l.d.node_size))
+    × (take (l.level * ((l.d.arity - 1) * l.d.node_size)) l.siblings ≡ gather (tree l.d [] []) (l.d.arity ^ l.d.height) l.place l.store l.level)
+
+abbrev pub decreases-loop-level : goal.decreases-loop-level
+decreases-loop-level l = l.d.height - l.level
