@@ -5,7 +5,6 @@ ghost use Rattle.std.specs.Prelude.{◌≡◌, ◌<◌, ◌≤◌, length, take,
 ghost use Rattle.streams.specs.declared.TheConstants.{CAPACITY};
 ghost use Rattle.std.specs.Io.KnownBytes.{Consumes, IsAtEnd};
 
-use itoa::Buffer;
 use std::io;
 use std::io::{Print, Read, Stdout};
 
@@ -54,9 +53,12 @@ impl Output {
         }
     }
 
+    // The digits before the last, and the last.
     pub fn write_decimal(&mut self, number: u64) {
-        let mut digits = Buffer::new();
-        self.write(digits.format(number).as_bytes());
+        if number >= 10 {
+            self.write_decimal(number / 10);
+        }
+        self.push(b'0' + (number % 10) as u8);
     }
 
     // Writes what waits. The error is that of the first write that failed.
