@@ -11,7 +11,7 @@ returns-then-not-few c = kept_none _ _ _ _ _ (c.if-not-few.true)
 
 pub offset_bounds-seen-kept : goal.offset_bounds-seen-kept
 offset_bounds-seen-kept c =
-    record { fits = omega (arith, c.requires (c.if-not-few.false), c.well-formed.0.1) }
+    record { fits = omega (arith, c.requires (c.if-not-few.false), c.well_formed.0.1) }
 
 pub bounds-seen-kept : goal.bounds-seen-kept
 bounds-seen-kept c = c.requires (c.if-not-few.false)
@@ -28,7 +28,7 @@ slice_bounds-is_among-end-2 c =
 
 pub offset_bounds-seen-kept-2 : goal.offset_bounds-seen-kept-2
 offset_bounds-seen-kept-2 c =
-    record { fits = omega (arith, c.requires (c.if-not-few.false), c.well-formed.0.1) }
+    record { fits = omega (arith, c.requires (c.if-not-few.false), c.well_formed.0.1) }
 
 pub bounds-seen-kept-2 : goal.bounds-seen-kept-2
 bounds-seen-kept-2 c = c.requires (c.if-not-few.false)

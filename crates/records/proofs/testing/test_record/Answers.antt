@@ -14,7 +14,7 @@ returns-then-tally-ne0 c = rw (ne_eqb _ _ c.if-tally-ne0.true) (refl, refl)
 
 pub keep_place-fresh-requires : goal.keep_place-fresh-requires
 unfolding room_of
-keep_place-fresh-requires c κs few =
+keep_place-fresh-requires c few =
     omega (arith, c.requires.keeps refl few, c.requires.whole c.if-tally-ne0.false)
 
 pub leaf_is_words-requires : goal.leaf_is_words-requires
@@ -22,15 +22,12 @@ leaf_is_words-requires c =
     leaf_in_record _ (c.requires.accepted c.if-tally-ne0.false)
 
 pub one_more-requires : goal.one_more-requires
-one_more-requires c κs few =
+one_more-requires c few =
     omega (arith, c.requires.keeps refl few)
 
 pub returns : goal.returns
 unfolding test_of
 returns c =
-    let words = c.before.before.before.before in
-    let kept = c.before.before.before.before.before.before.before.before.before.before in
-    let rising = c.before.before.before.before.before.before.before.before.before.before.before.before in
     let t : Tally = c.args.tally in
     let fresh = c.keep_place-fresh.ensures.0 ∙ ap (λ (b : Bool). fresh_of t.few t.kept b c.args.item.place c.args.seen.now) c.both-rises.ensures in
     rw (eq-eqb t.number 0 c.if-tally-ne0.false) (

@@ -1,0 +1,10 @@
+use native.Mathlib.Omega.{arith}
+use Prim.Native.Nat.{◌-◌}
+use Rattle.pushes.proofs.Ranks.{Counting, counting_none, counting_ends, counting_more, counting_all}
+use Rattle.pushes.proofs.levels.count.Given as goal
+
+abbrev pub invariant-loop-level : goal.invariant-loop-level
+invariant-loop-level l = Counting l.arity l.height l.places l.most l.level l.nodes
+
+abbrev pub decreases-loop-level : goal.decreases-loop-level
+decreases-loop-level l = l.height - l.level

@@ -1,0 +1,26 @@
+use mathlib.Core.Path.{◌≡◌, ap, ◌∙◌}
+use native.Mathlib.Omega.{arith}
+use Prim.Native.Nat.{ℕ, ◌+◌, ◌*◌, ◌/◌}
+use borrow.Author.Rules.{rules}
+use Rattle.trees.specs.declared.Dimensions.{Dimensions}
+use Rattle.records.specs.Tests.{ranked}
+use Rattle.pushes.specs.Passes.{next_of}
+use Rattle.pushes.proofs.Ranks.{some_under, under_fits, before_fits}
+use Rattle.pushes.proofs.levels.next.Goals as goal
+
+pub nonzero_div-before : goal.nonzero_div-before
+nonzero_div-before c = some_under c.args.set c.requires.accepted c.requires.rank
+
+pub overflow_add-before : goal.overflow_add-before
+overflow_add-before c =
+    rw c.requires.places (record { fits = before_fits c.args.set c.requires.accepted c.requires.rank })
+
+pub overflow_mul-tally : goal.overflow_mul-tally
+overflow_mul-tally c =
+    rw c.dimensions-d.ensures (record { fits = under_fits c.args.set c.requires.accepted c.requires.rank })
+
+pub returns : goal.returns
+unfolding next_of
+returns c =
+    let t = c.args.tally in
+    c.ranked.ensures ∙ ap (λ (e : Dimensions). ranked t (t.before + t.places / t.under) (t.under * e.arity) t.made) c.dimensions-d.ensures
