@@ -11,7 +11,6 @@ use borrow.Author.Tests.{eqb-true, ltb-false, lt-ltb, le-ltb, not-false}
 use Rattle.refusals.specs.Table.{refusal, first_refusal}
 use Rattle.refusals.proofs.Table.{Numbered, none, next, numbered_append, refusal_applies, refusal_passes, refusal_none, first_back, first_none}
 use Rattle.poseidon2.specs.Statements.{Width, Words}
-use Rattle.fields.proofs.Prime.{positive}
 use Rattle.parameters.specs.declared.ParameterSet.{ParameterSet}
 use Rattle.parameters.specs.ParameterSet.{prime_of, set_refusals}
 use Rattle.parameters.proofs.Accepted.{set-numbered}

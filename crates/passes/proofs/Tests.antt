@@ -1,6 +1,6 @@
 -- The first pass: what the tally shows after it of the places and the leaves.
 use mathlib.Core.Path.{◌≡◌, refl, sym, ap, ap₂, subst, ◌∙◌}
-use mathlib.Core.Bool.{Bool, true, false, cond, not, ◌&&◌, ◌||◌, and_true, and_assoc}
+use mathlib.Core.Bool.{Bool, true, false, cond, not, ◌&&◌, ◌||◌, and-true, and_assoc}
 use mathlib.Core.List.{List, [], ◌∷◌, ◌++◌, append_assoc, append-nil}
 use Prim.Native.Nat.{ℕ, ◌+◌, ◌≤◌, ◌<◌}
 use native.Mathlib.Numerals.{add-one}
@@ -42,7 +42,7 @@ pub record Tested (s : ParameterSet) (rs : List Record) (t t' : Tally) : Type 0 
 
 pub tested_all : (s : ParameterSet) (rs : List Record) (t : Tally) (seen : List ℕ) → t.number ≡ 0 → Tested s rs t (each_of s 0 rs (pass t seen)).tally
 unfolding each_of places_below used_words all_words
-tested_all s [] t seen e = record { number = e; places = refl; placed = sym (and_true t.placed); words = sym (and_true t.words); few = refl; levels = refl; before = refl; under = refl; made = refl }
+tested_all s [] t seen e = record { number = e; places = refl; placed = sym (and-true t.placed); words = sym (and-true t.words); few = refl; levels = refl; before = refl; under = refl; made = refl }
 tested_all s (r ∷ rs) t seen e =
     subst (λ (u : Pass). Tested s (r ∷ rs) t (each_of s 0 rs u).tally) (sym (test_is s r t seen e)) (more (tested_all s rs (tested s r t seen).tally (tested s r t seen).buffer refl))
   where

@@ -45,25 +45,25 @@ module _ (s : ParameterSet) (phase : ℕ) (rs : List Record) (t₀ : Tally) (xs 
       low = reached.going.low;
     }
 
-    pub reached_next : i < length rs → (t' : Tally) (zs' : List ℕ)
-        → (t' ≡ (step_of s phase (get_or rs i blank) (pass t zs)).tally) × (zs' ≡ (step_of s phase (get_or rs i blank) (pass t zs)).buffer)
+    pub reached_next : i < length rs → (d : Record) (t' : Tally) (zs' : List ℕ)
+        → (t' ≡ (step_of s phase (get_or rs i d) (pass t zs)).tally) × (zs' ≡ (step_of s phase (get_or rs i d) (pass t zs)).buffer)
         → length zs' ≡ length zs → Reached s phase rs t₀ xs (i + 1) t' zs'
     unfolding each_of
-    reached_next l t' zs' e same = record {
+    reached_next l d t' zs' e same = record {
       inside = omega (arith, l);
       long = same ∙ reached.long;
       going = subst (λ (u : Tally). Going s phase zs' u (length rs - (i + 1))) (sym e.0)
-          (goes_on s phase (get_or rs i blank) (pass t zs) zs' (length rs - (i + 1)) same (subst (Going s phase zs t) one_more_lem reached.going));
+          (goes_on s phase (get_or rs i d) (pass t zs) zs' (length rs - (i + 1)) same (subst (Going s phase zs t) one_more_lem reached.going));
       left = ap (each_of s phase (drop (i + 1) rs)) whole_step
-          ∙ ap (λ (k : ℕ). each_of s phase (drop k rs) (step_of s phase (get_or rs i blank) (pass t zs))) (add-one i)
-          ∙ sym (ap (λ (qs : List Record). each_of s phase qs (pass t zs)) (drop-cons rs i blank l))
+          ∙ ap (λ (k : ℕ). each_of s phase (drop k rs) (step_of s phase (get_or rs i d) (pass t zs))) (add-one i)
+          ∙ sym (ap (λ (qs : List Record). each_of s phase qs (pass t zs)) (drop-cons rs i d l))
           ∙ reached.left;
     }
       where
         one_more_lem : length rs - i ≡ suc (length rs - (i + 1))
         one_more_lem = omega (arith, l)
 
-        whole_step : pass t' zs' ≡ step_of s phase (get_or rs i blank) (pass t zs)
+        whole_step : pass t' zs' ≡ step_of s phase (get_or rs i d) (pass t zs)
         whole_step = λ j. record { tally = e.0 j; buffer = e.1 j }
 
     pub reached_all : length rs ≤ i → (t ≡ (each_of s phase rs (pass t₀ xs)).tally) × (zs ≡ (each_of s phase rs (pass t₀ xs)).buffer)
@@ -86,7 +86,7 @@ module _ (s : ParameterSet) (phase : ℕ) (ns : List ℕ) (t₀ : Tally) (xs : L
         → (t' ≡ (step_of s phase (record_at ns i) (pass t zs)).tally) × (zs' ≡ (step_of s phase (record_at ns i) (pass t zs)).buffer)
         → length zs' ≡ length zs → Reached s phase (listed ns) t₀ xs (i + 1) t' zs'
     listed_next l t' zs' e =
-        reached_next s phase (listed ns) t₀ xs i t zs reached (omega (arith, l, listed_count ns)) t' zs'
+        reached_next s phase (listed ns) t₀ xs i t zs reached (omega (arith, l, listed_count ns)) blank t' zs'
         (subst (λ (r : Record). (t' ≡ (step_of s phase r (pass t zs)).tally) × (zs' ≡ (step_of s phase r (pass t zs)).buffer)) (sym (listed_at ns i blank l)) e)
 
     pub listed_all : length ns / 7 ≤ i → (t ≡ (each_of s phase (listed ns) (pass t₀ xs)).tally) × (zs ≡ (each_of s phase (listed ns) (pass t₀ xs)).buffer)

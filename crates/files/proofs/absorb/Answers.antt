@@ -1,5 +1,5 @@
 use mathlib.Core.Path.{◌≡◌, sym, ap, ap₂, ◌∙◌}
-use Prim.Native.Nat.{ℕ, ◌+◌, ◌*◌, ◌-◌, ◌/◌, ◌≤◌, ◌<◌}
+use Prim.Native.Nat.{ℕ, ◌+◌, ◌*◌, ◌/◌, ◌≤◌, ◌<◌}
 use native.Mathlib.Nat.{mul-pos, div-le_self}
 use native.Mathlib.Omega.{arith}
 use lib.ListN.{length}
@@ -12,7 +12,7 @@ use Rattle.fields.specs.Prime.{prime, word_bytes}
 use Rattle.fields.proofs.Prime.{positive, word_bytes_lem, bytes_few}
 use Rattle.files.proofs.MessageBytes.{marked}
 use Rattle.blocks.proofs.Slices.{width_small}
-use Rattle.files.proofs.MessageBlocks.{block_from, offset_few, block_begins, message_length, block_of_file, Absorbed, absorbed_none, absorbed_block}
+use Rattle.files.proofs.MessageBlocks.{block_from, offset_few, block_begins, message_length, block_of_file, absorbed_none, absorbed_block}
 use Rattle.files.proofs.absorb.Goals as goal
 use Rattle.files.proofs.absorb.Goals.{After-word_bytes, In-loop-n}
 
@@ -59,7 +59,7 @@ overflow_mul-size-in-loop-n c = omega (arith, begins c)
 
 pub add_block-requires : goal.add_block-requires
 add_block-requires c =
-    (omega (arith, c.loop-n.invariant.words_of.width, c.requires.6), width_small c.args.rate c.requires.0 c.requires.6, begins c.before, c.loop-n.invariant.words_of.words)
+    (omega (arith, c.loop-n.invariant.words_of.width, c.requires.6), width_small c.args.rate c.requires.0 c.requires.6, begins (goal.at.add_block-requires c).In-loop-n, c.loop-n.invariant.words_of.words)
 
 pub permute-requires : goal.permute-requires
 permute-requires c =
@@ -77,7 +77,7 @@ pub loop-n-preserved : goal.loop-n-preserved
 loop-n-preserved c =
     let a = c.args in
     let bytes = marked a.head.now a.contents.now in
-    let here : c.loop-n.n < block_count word_bytes a.rate (length (message a.contents.now)) = omega (arith, c.loop-n-test.true, blocks-are c.before) in
+    let here : c.loop-n.n < block_count word_bytes a.rate (length (message a.contents.now)) = omega (arith, c.loop-n-test.true, blocks-are (goal.at.loop-n-preserved c).After-word_bytes) in
     let block = ap (λ (k : ℕ). block_from word_bytes a.rate (k * a.rate * c.loop-n.n) bytes) c.word_bytes.ensures
     ∙ block_of_file a.head.now a.contents.now c.requires.7 word_bytes a.rate word_bytes_lem.some c.requires.5 c.loop-n.n here in
     let long = c.add_block.auto.state ∙ c.loop-n.invariant.words_of.width in
@@ -93,9 +93,6 @@ returns c =
     let a = c.args in
     let f = permute prime a.half a.partial_rounds a.diagonal.now a.constants.now in
     let words = file_words word_bytes a.rate a.contents.now in
-    let all : c.loop-n.n ≡ block_count word_bytes a.rate (length (message a.contents.now)) = omega (arith, c.loop-n-test.false, c.loop-n.invariant.within, blocks-are c.before) in
+    let all : c.loop-n.n ≡ block_count word_bytes a.rate (length (message a.contents.now)) = omega (arith, c.loop-n-test.false, c.loop-n.invariant.within, blocks-are (goal.at.returns c).After-word_bytes) in
     c.loop-n.invariant.is
     ∙ ap (λ (k : ℕ). absorb prime a.rate f k words a.state.now) (all ∙ sym (block_count_lem word_bytes a.rate word_bytes_lem.some c.requires.5 a.contents.now))
-
-pub word_bytes-requires : goal.word_bytes-requires
-word_bytes-requires c = tt

@@ -9,7 +9,6 @@ use Rattle.fields.specs.Prime.{prime, word_bytes}
 use Rattle.fields.proofs.Prime.{bytes_few}
 use Rattle.files.proofs.MessageBytes.{inside_facts}
 use Rattle.files.proofs.MessageBlocks.{offset_few, inner_block}
-use borrow.Author.Rules.{rules}
 use Rattle.files.proofs.add_block.Goals as goal
 use Rattle.files.proofs.add_block.Goals.{After-word_bytes, Then-inside}
 
@@ -32,7 +31,7 @@ bytes-are c = ap (λ (b : ℕ). b * c.args.rate) c.word_bytes.ensures
 
 pub add_inner-requires : goal.add_inner-requires
 add_inner-requires c =
-    let t = c.before.before in
+    let t = (goal.at.add_inner-requires c).Then-inside in
     let i = c.args.from - length c.args.head.now in
     let n = length c.args.contents.now in
     let long = length-take-le (n - i) (drop i c.args.contents.now) (omega (arith, length-drop i c.args.contents.now)) in
@@ -40,7 +39,7 @@ add_inner-requires c =
 
 pub returns-then-inside : goal.returns-then-inside
 returns-then-inside c =
-    let t = c.before.before.before.before.before in
+    let t = (goal.at.returns-then-inside c).Then-inside in
     let a = c.args in
     c.add_inner.ensures
     ∙ ap (λ (xs : List ℕ). add_block prime a.rate xs a.state.now)

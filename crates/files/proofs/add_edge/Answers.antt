@@ -1,5 +1,5 @@
 use mathlib.Core.Path.{◌≡◌, ap, ◌∙◌}
-use Prim.Native.Nat.{ℕ, ◌+◌, ◌*◌, ◌-◌, ◌≤◌}
+use Prim.Native.Nat.{ℕ, ◌+◌, ◌*◌, ◌≤◌}
 use native.Mathlib.Omega.{arith}
 use lib.ListN.{take, drop}
 use Rattle.octets.specs.Numbers.{little_endian}
@@ -7,7 +7,7 @@ use Rattle.blobs.specs.Absorption.{add_block}
 use Rattle.fields.specs.Prime.{prime, word_bytes}
 use Rattle.fields.proofs.Prime.{bytes_few}
 use Rattle.files.proofs.MessageBytes.{marked}
-use Rattle.files.proofs.MessageBlocks.{block_from, Added, added_none, untouched, added_word, offset_few}
+use Rattle.files.proofs.MessageBlocks.{block_from, added_none, untouched, added_word, offset_few}
 use Rattle.files.proofs.add_edge.Goals as goal
 use Rattle.files.proofs.add_edge.Goals.{In-loop-i}
 
@@ -53,23 +53,8 @@ returns c =
     let all : c.loop-i.i ≡ a.rate = omega (arith, c.loop-i.invariant.within) in
     c.loop-i.invariant.is ∙ ap (λ (k : ℕ). add_block prime k (block_from word_bytes a.rate a.from (marked a.head.now a.contents.now)) a.state.now) all
 
-pub word_bytes-size-requires : goal.word_bytes-size-requires
-word_bytes-size-requires c = tt
-
 pub loop-i-init : goal.loop-i-init
 loop-i-init c = added_none
-
-pub offset_bounds-state-i : goal.offset_bounds-state-i
-offset_bounds-state-i c = omega arith
-
-pub offset_bounds-state-i-in-loop-i : goal.offset_bounds-state-i-in-loop-i
-offset_bounds-state-i-in-loop-i c = omega arith
-
-pub overflow_add-i : goal.overflow_add-i
-overflow_add-i c = omega arith
-
-pub loop-i-smaller : goal.loop-i-smaller
-loop-i-smaller c = omega arith
 
 pub shape_of-state : goal.shape_of-state
 shape_of-state c = c.loop-i.invariant.long

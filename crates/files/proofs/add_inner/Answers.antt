@@ -4,13 +4,15 @@ use native.Mathlib.Nat.{zero-add, mul-le-mul_left}
 use native.Mathlib.Omega.{arith}
 use lib.ListN.{length, take, drop, length-drop}
 use lib.Seq.{length-take-le}
+use mathlib.Core.Bool.{true}
+use Rattle.modular.specs.Arithmetic.{all_words}
 use Rattle.modular.proofs.Words.{words_by}
 use Rattle.octets.specs.Numbers.{little_endian}
 use Rattle.blobs.specs.Absorption.{add_block}
 use Rattle.fields.specs.Prime.{prime, word_bytes}
 use Rattle.fields.proofs.Prime.{bytes_few}
 use Rattle.files.proofs.MessageBytes.{read_at_once}
-use Rattle.files.proofs.MessageBlocks.{block_from, Added, added_none, untouched, added_word, offset_few}
+use Rattle.files.proofs.MessageBlocks.{block_from, added_none, untouched, added_word, offset_few}
 use Rattle.files.proofs.add_inner.Goals as goal
 use Rattle.files.proofs.add_inner.Goals.{After-low_bytes-word, In-loop-i}
 
@@ -39,18 +41,18 @@ bounds-state-i c =
     omega (arith, c.loop-i.invariant.long, c.requires.0)
 
 -- the word that is read
-word : (c : After-low_bytes-word)
+word : (c : After-low_bytes-word) → all_words 256 c.args.bytes.now ≡ true
     → (c.low_bytes-word.result ≡ little_endian (take word_bytes (drop (c.word_bytes-size.result * c.loop-i.i) c.args.bytes.now))) × (c.low_bytes-word.result < 256 ^ word_bytes)
-word c =
+word c bytes =
     let a = c.args in
     read_at_once word_bytes (c.word_bytes-size.result * c.loop-i.i) a.bytes.now
-    (words_by 256 a.bytes.now (λ i h. omega (arith, c.shared_slice_known-1.given i)))
+    bytes
     bytes_few c.number_of.ensures c.word_bytes-size.ensures c.low_bytes-word.ensures
 
 pub added-requires : goal.added-requires
 added-requires c =
     let own = untouched c.loop-i.i c.loop-i.state (omega (arith, c.requires.0)) c.loop-i.invariant in
-    (omega (arith, own, c.requires.3.at c.loop-i.i), (word c.before).1)
+    (omega (arith, own, c.requires.3.at c.loop-i.i), (word (goal.at.added-requires c).After-low_bytes-word (words_by 256 c.args.bytes.now (λ i _. omega (arith, c.type_inv.bytes i)))).1)
 
 pub bounds-state-i-in-loop-i : goal.bounds-state-i-in-loop-i
 bounds-state-i-in-loop-i c =
@@ -61,7 +63,7 @@ loop-i-preserved c =
     let place : c.word_bytes-size.result * c.loop-i.i ≡ 0 + word_bytes * c.loop-i.i =
     ap (λ (b : ℕ). b * c.loop-i.i) c.word_bytes-size.ensures ∙ sym (zero-add (word_bytes * c.loop-i.i)) in
     added_word c.loop-i.i c.loop-i.state (omega arith) c.requires.0 c.loop-i.invariant
-    ((word c.before.before).0 ∙ ap (λ (k : ℕ). little_endian (take word_bytes (drop k c.args.bytes.now))) place)
+    ((word (goal.at.loop-i-preserved c).After-low_bytes-word (words_by 256 c.args.bytes.now (λ i _. omega (arith, c.type_inv.bytes i)))).0 ∙ ap (λ (k : ℕ). little_endian (take word_bytes (drop k c.args.bytes.now))) place)
     c.added.ensures
 
 pub returns : goal.returns
@@ -69,9 +71,6 @@ returns c =
     let a = c.args in
     let all : c.loop-i.i ≡ a.rate = omega (arith, c.loop-i.invariant.within) in
     c.loop-i.invariant.is ∙ ap (λ (k : ℕ). add_block prime k (block_from word_bytes a.rate 0 a.bytes.now) a.state.now) all
-
-pub word_bytes-size-requires : goal.word_bytes-size-requires
-word_bytes-size-requires c = tt
 
 pub loop-i-init : goal.loop-i-init
 loop-i-init c = added_none
@@ -87,18 +86,6 @@ slice_bounds-number_of-start c = omega (arith, eight c)
 
 pub slice_bounds-number_of-end : goal.slice_bounds-number_of-end
 slice_bounds-number_of-end c = omega (arith, eight c)
-
-pub offset_bounds-state-i : goal.offset_bounds-state-i
-offset_bounds-state-i c = omega arith
-
-pub offset_bounds-state-i-in-loop-i : goal.offset_bounds-state-i-in-loop-i
-offset_bounds-state-i-in-loop-i c = omega arith
-
-pub overflow_add-i : goal.overflow_add-i
-overflow_add-i c = omega arith
-
-pub loop-i-smaller : goal.loop-i-smaller
-loop-i-smaller c = omega arith
 
 pub shape_of-state : goal.shape_of-state
 shape_of-state c = c.loop-i.invariant.long

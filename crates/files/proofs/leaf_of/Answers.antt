@@ -1,5 +1,4 @@
 use mathlib.Core.Path.{refl, sym, ap, ◌∙◌}
-use Prim.Native.Nat.{◌-◌}
 use native.Mathlib.Omega.{arith}
 use lib.ListN.{length, replicate}
 use lib.Seq.{length-take-le}
@@ -9,7 +8,6 @@ use Rattle.fields.specs.Prime.{prime, word_bytes}
 use Rattle.fields.proofs.Prime.{positive}
 use Rattle.files.proofs.MessageBytes.{head_fits, head_taken}
 use Rattle.files.proofs.MessageBlocks.{zero_words, leaf_is}
-use borrow.Author.Rules.{rules}
 use Rattle.files.proofs.leaf_of.Goals as goal
 
 pub slice_bounds-places-end : goal.slice_bounds-places-end
@@ -27,13 +25,13 @@ slice_bounds-head-end c =
 pub slice_bounds-absorb-end : goal.slice_bounds-absorb-end
 slice_bounds-absorb-end c =
     let h = c.put_head-end in
-    sym (length-take-le _ _ (omega (arith, h.ensures.0, h.auto.1.0, head_fits (length c.args.contents.now) c.requires.6)))
+    sym (length-take-le _ _ (omega (arith, h.ensures.value, h.auto.head, head_fits (length c.args.contents.now) c.requires.6)))
 
 pub absorb-requires : goal.absorb-requires
 absorb-requires c =
     let h = c.put_head-end in
     let n = length c.args.contents.now in
-    let head = head_taken (replicate 16 0) n refl c.requires.6 h.ensures.0 h.ensures.1 in
+    let head = head_taken (replicate 16 0) n refl c.requires.6 h.ensures.value h.ensures.head_after in
     let fits = width_small c.args.width c.requires.0 (omega arith) in (
       c.requires.0,
       c.requires.2,
@@ -60,4 +58,4 @@ returns c =
     let fits = width_small a.width c.requires.0 (omega arith) in
     let r = c.absorb in
     leaf_is prime word_bytes a.width a.node_size 12 (permute prime a.half a.partial_rounds a.diagonal.now a.constants.now) a.contents.now a.leaf.now
-    (omega (arith, c.requires.1)) fits c.requires.7 (r.auto.1.1.1.1.1.1.1.1.0 ∙ length-take-le _ _ fits) r.ensures c.copy_words.ensures
+    (omega (arith, c.requires.1)) fits c.requires.7 (r.auto.state ∙ length-take-le _ _ fits) r.ensures c.copy_words.ensures

@@ -3,7 +3,6 @@ use lib.ListN.{take, replicate}
 use Rattle.merkle.specs.Lists.{part}
 use Rattle.merkle.proofs.Lists.{length_part}
 use Rattle.trees.proofs.Lists.{head_put}
-use borrow.Author.Rules.{rules}
 use Rattle.storeless.proofs.leaf_row.Goals as goal
 
 pub returns : goal.returns

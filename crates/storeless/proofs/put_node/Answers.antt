@@ -5,7 +5,6 @@ use lib.ListN.{take}
 use Rattle.merkle.specs.Lists.{part}
 use Rattle.merkle.proofs.Lists.{length_part}
 use Rattle.trees.proofs.Lists.{take-put_next}
-use borrow.Author.Rules.{rules}
 use Rattle.storeless.proofs.put_node.Goals as goal
 
 pub returns : goal.returns

@@ -1,7 +1,6 @@
 use native.Mathlib.Omega.{arith}
 use Rattle.trees.proofs.Shapes.{node_small}
 use Rattle.storeless.proofs.Recursion.{at_root, root_copied}
-use borrow.Author.Rules.{rules}
 use Rattle.storeless.proofs.storeless_root.Goals as goal
 
 pub node-x-requires : goal.node-x-requires

@@ -1,6 +1,5 @@
 use native.Mathlib.Omega.{arith}
 use Rattle.files.proofs.MessageBytes.{head_byte, contents_byte, mark_byte, zero_byte}
-use borrow.Author.Rules.{rules}
 use Rattle.files.proofs.message.byte_at.Goals as goal
 
 pub returns-then-at-head : goal.returns-then-at-head

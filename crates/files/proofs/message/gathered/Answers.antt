@@ -1,8 +1,7 @@
 use mathlib.Core.Path.{◌∙◌}
 use native.Mathlib.Omega.{arith}
-use Rattle.fields.specs.Prime.{word_bytes}
 use Rattle.fields.proofs.Prime.{bytes_few}
-use Rattle.files.proofs.MessageBytes.{marked, Gathered, none_gathered, one_gathered, room, all_gathered}
+use Rattle.files.proofs.MessageBytes.{none_gathered, one_gathered, room, all_gathered}
 use Rattle.files.proofs.message.gathered.Goals as goal
 
 pub loop-i-init : goal.loop-i-init
@@ -25,18 +24,3 @@ loop-i-preserved c =
 
 pub returns : goal.returns
 returns c = all_gathered c.loop-i.i c.loop-i.word (omega arith) c.loop-i.invariant
-
-pub word_bytes-i-requires : goal.word_bytes-i-requires
-word_bytes-i-requires c = tt
-
-pub overflow_sub-i : goal.overflow_sub-i
-overflow_sub-i c = omega arith
-
-pub byte_at-requires : goal.byte_at-requires
-byte_at-requires c = tt
-
-pub wide-requires : goal.wide-requires
-wide-requires c = tt
-
-pub loop-i-smaller : goal.loop-i-smaller
-loop-i-smaller c = omega arith

@@ -1,8 +1,5 @@
-use mathlib.Core.Path.{◌∙◌}
-use native.Mathlib.Omega.{arith}
 use Rattle.fields.specs.Prime.{word_bytes}
-use Rattle.fields.proofs.Prime.{bytes_few}
-use Rattle.files.proofs.MessageBytes.{marked, Gathered, none_gathered, one_gathered, room, all_gathered}
+use Rattle.files.proofs.MessageBytes.{marked, Gathered}
 use Rattle.files.proofs.message.gathered.Given as goal
 
 abbrev pub invariant-loop-i : goal.invariant-loop-i

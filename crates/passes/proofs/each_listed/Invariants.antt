@@ -1,0 +1,12 @@
+-- The loop keeps what that of `each` keeps, over the records of the list.
+use Prim.Native.Nat.{◌-◌}
+use native.Mathlib.Omega.{arith}
+use Rattle.passes.proofs.Turns.{Reached, listed_none, listed_asks, listed_next, listed_all}
+use Rattle.records.specs.Listed.{listed}
+use Rattle.passes.proofs.each_listed.Given as goal
+
+abbrev pub invariant-loop-i : goal.invariant-loop-i
+invariant-loop-i l = Reached l.set l.phase (listed l.numbers) l.initial.sum l.initial.buffer l.i l.sum l.buffer
+
+abbrev pub decreases-loop-i : goal.decreases-loop-i
+decreases-loop-i l = l.count - l.i

@@ -1,0 +1,32 @@
+use mathlib.Core.Path.{sym}
+use Prim.Native.Nat.{ℕ, ◌-◌}
+use native.Mathlib.Omega.{arith}
+use lib.ListN.{length-replicate}
+use borrow.Author.Rules.{rules}
+use Rattle.records.specs.Listed.{listed}
+use Rattle.passes.proofs.Searching.{Reached, search_begins, search_asks, search_next, search_ends}
+use Rattle.passes.proofs.search_listed.Goals as goal
+
+pub loop-phase-init : goal.loop-phase-init
+loop-phase-init c = search_begins _ _ _ _ c.requires
+
+pub slice_bounds-each_listed-end : goal.slice_bounds-each_listed-end
+slice_bounds-each_listed-end c = sym (length-replicate {A = ℕ} 16384 0)
+
+pub each_listed-next-requires : goal.each_listed-next-requires
+each_listed-next-requires c =
+    search_asks _ _ _ _ c.requires _ _ c.loop-phase.invariant (omega (arith, c.loop-phase-test.true, c.search_end-end.ensures))
+
+pub overflow_add-phase : goal.overflow_add-phase
+overflow_add-phase c = omega arith
+
+pub loop-phase-smaller : goal.loop-phase-smaller
+loop-phase-smaller c = omega arith
+
+pub loop-phase-preserved : goal.loop-phase-preserved
+loop-phase-preserved c =
+    search_next _ _ _ _ c.requires _ _ c.loop-phase.invariant (omega (arith, c.loop-phase-test.true, c.search_end-end.ensures)) _ c.each_listed-next.ensures.0
+
+pub returns : goal.returns
+returns c =
+    search_ends _ _ _ _ c.requires _ _ c.loop-phase.invariant (omega (arith, c.loop-phase-test.false, c.search_end-end.ensures))

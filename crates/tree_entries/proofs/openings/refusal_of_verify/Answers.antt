@@ -1,0 +1,49 @@
+use mathlib.Core.Path.{sym, ap, ◌∙◌}
+use mathlib.Core.Bool.{not}
+use borrow.Author.Rules.{rules}
+use borrow.Author.Tests.{eq-eqb, ne_eqb, lt-ltb, le-ltb}
+use Rattle.refusals.proofs.Table.{front_answers}
+use Rattle.parameters.proofs.Accepted.{set-numbered}
+use Rattle.modular.proofs.Words.{and_true}
+use Rattle.tree_entries.specs.Trees.{verify_refusals}
+use Rattle.refusals.proofs.LengthsPlacesAndWords.{at_10, at_11, at_words}
+use Rattle.refusals.proofs.LengthsAndWords.{first_bad, and_false_left, and_false_right, second_bad, both_good}
+use Rattle.tree_entries.proofs.openings.refusal_of_verify.Goals as goal
+
+pub returns-then-number-ne0 : goal.returns-then-number-ne0
+unfolding verify_refusals
+returns-then-number-ne0 c = front_answers _ _ c.refusal_of-number.ensures c.if-number-ne0.true
+
+pub returns-then-root-set : goal.returns-then-root-set
+unfolding verify_refusals
+returns-then-root-set c =
+    sym (at_10 _ _ (set-numbered _) _ _ _ (sym c.refusal_of-number.ensures ∙ c.if-number-ne0.false) (first_bad _ _ (and_false_left _ _ (ne_eqb _ _ c.if-root-set.true))))
+
+pub returns-then-leaf-set : goal.returns-then-leaf-set
+unfolding verify_refusals
+returns-then-leaf-set c =
+    sym (at_10 _ _ (set-numbered _) _ _ _ (sym c.refusal_of-number.ensures ∙ c.if-number-ne0.false) (first_bad _ _ (and_false_right _ _ (eq-eqb _ _ c.if-root-set.false) (ne_eqb _ _ c.if-leaf-set.true))))
+
+pub opening_words-requires : goal.opening_words-requires
+opening_words-requires c =
+    sym c.refusal_of-number.ensures ∙ c.if-number-ne0.false
+
+pub returns-then-siblings-opening_words : goal.returns-then-siblings-opening_words
+unfolding verify_refusals
+returns-then-siblings-opening_words c =
+    sym (at_10 _ _ (set-numbered _) _ _ _ (sym c.refusal_of-number.ensures ∙ c.if-number-ne0.false) (second_bad _ _ (and_true _ _ (eq-eqb _ _ c.if-root-set.false) (eq-eqb _ _ c.if-leaf-set.false)) (ne_eqb _ _ (λ z. c.if-siblings-opening_words.true (z ∙ sym c.opening_words.ensures)))))
+
+pub places-requires : goal.places-requires
+places-requires c =
+    sym c.refusal_of-number.ensures ∙ c.if-number-ne0.false
+
+pub returns-then-places-place : goal.returns-then-places-place
+unfolding verify_refusals
+returns-then-places-place c =
+    sym (at_11 _ _ (set-numbered _) _ _ _ (sym c.refusal_of-number.ensures ∙ c.if-number-ne0.false) (both_good _ _ (and_true _ _ (eq-eqb _ _ c.if-root-set.false) (eq-eqb _ _ c.if-leaf-set.false)) (eq-eqb _ _ (c.if-siblings-opening_words.false ∙ c.opening_words.ensures))) (ap not (le-ltb _ _ (rw c.places.ensures at c.if-places-place.true))))
+
+pub returns : goal.returns
+unfolding verify_refusals
+returns c =
+    c.refusal_of_words.ensures
+    ∙ sym (at_words _ _ (set-numbered _) _ _ _ (sym c.refusal_of-number.ensures ∙ c.if-number-ne0.false) (both_good _ _ (and_true _ _ (eq-eqb _ _ c.if-root-set.false) (eq-eqb _ _ c.if-leaf-set.false)) (eq-eqb _ _ (c.if-siblings-opening_words.false ∙ c.opening_words.ensures))) (ap not (lt-ltb _ _ (rw c.places.ensures at c.if-places-place.false))))
