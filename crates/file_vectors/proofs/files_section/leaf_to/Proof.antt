@@ -2,8 +2,8 @@ use lib.Seq.{length-take-le}
 use mathlib.Core.Path.{sym}
 use native.Mathlib.Omega.{arith}
 use borrow.Author.Rules.{rules}
-use Rattle.file_vectors.proofs.files.leaf_to.Statement.{statement}
-use Rattle.file_vectors.proofs.files.leaf_to.Tie as tie
+use Rattle.file_vectors.proofs.files_section.leaf_to.Statement.{statement}
+use Rattle.file_vectors.proofs.files_section.leaf_to.Tie as tie
 
 slice-aggregate-leaf-of-file : tie.Need-slice-aggregate-leaf-of-file
 slice-aggregate-leaf-of-file c = sym (length-take-le _ _ (omega arith))

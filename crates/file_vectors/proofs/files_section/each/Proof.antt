@@ -1,7 +1,7 @@
 use Prim.Native.Nat.{◌≤◌, ◌-◌}
 use borrow.Author.Rules.{rules}
-use Rattle.file_vectors.proofs.files.each.Statement.{statement}
-use Rattle.file_vectors.proofs.files.each.Tie as tie
+use Rattle.file_vectors.proofs.files_section.each.Statement.{statement}
+use Rattle.file_vectors.proofs.files_section.each.Tie as tie
 
 abbrev invariant-loop : tie.invariant-loop
 invariant-loop asked bytes first last length₀ length = first ≤ length

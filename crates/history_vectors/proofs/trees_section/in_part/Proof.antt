@@ -1,6 +1,6 @@
 use Rattle.std.proofs.Common.{sym, arith, length-take-le, rules}
-use Rattle.history_vectors.proofs.trees.in_part.Statement.{statement}
-use Rattle.history_vectors.proofs.trees.in_part.Tie as tie
+use Rattle.history_vectors.proofs.trees_section.in_part.Statement.{statement}
+use Rattle.history_vectors.proofs.trees_section.in_part.Tie as tie
 
 slice-aggregate-each : tie.Need-slice-aggregate-each
 slice-aggregate-each c = sym (length-take-le _ _ (omega arith))

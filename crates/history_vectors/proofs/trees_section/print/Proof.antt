@@ -1,7 +1,6 @@
-use Prim.Native.Nat.{◌≤◌, ◌-◌}
-use borrow.Author.Rules.{rules}
-use Rattle.file_vectors.proofs.files.print.Statement.{statement}
-use Rattle.file_vectors.proofs.files.print.Tie as tie
+use Rattle.std.proofs.Common.{◌-◌, ◌≤◌, rules}
+use Rattle.history_vectors.proofs.trees_section.print.Statement.{statement}
+use Rattle.history_vectors.proofs.trees_section.print.Tie as tie
 
 abbrev invariant-loop : tie.invariant-loop
 invariant-loop input at₀ counter₀ end at counter = counter ≤ end

@@ -1,6 +1,7 @@
-use Rattle.std.proofs.Common.{◌-◌, ◌≤◌, rules}
-use Rattle.history_vectors.proofs.trees.print.Statement.{statement}
-use Rattle.history_vectors.proofs.trees.print.Tie as tie
+use Prim.Native.Nat.{◌≤◌, ◌-◌}
+use borrow.Author.Rules.{rules}
+use Rattle.file_vectors.proofs.files_section.print.Statement.{statement}
+use Rattle.file_vectors.proofs.files_section.print.Tie as tie
 
 abbrev invariant-loop : tie.invariant-loop
 invariant-loop input at₀ counter₀ end at counter = counter ≤ end
