@@ -1,6 +1,7 @@
 """Holds what is assumed to reading and writing, in the programs alone, once `rt ci` has proved the crates and built the programs. Each crate is
 proved, and stands on crates of this repository and on std; rt ci refuses C functions of a crate's own, and says that no handle is allowed. A
-program, as either compiler builds it, calls nothing of the C library but what std needs to read standard input, to write and to end.
+crate that was proved in this run assumes no C function, or in a program those by which std reads, writes and names an error. A program, as
+either compiler builds it, calls nothing of the C library but these and what a process starts and ends by; so it takes no memory.
 
 usage: assumed.py LOG, the file that has what rt ci printed. The last line counts a check for each crate, and one for each built program.
 """
@@ -14,13 +15,22 @@ from pathlib import Path
 REPOSITORY = Path(__file__).resolve().parent.parent
 CRATES = REPOSITORY / "crates"
 LISTED = re.compile(r"^(\w+)(?: staticlib)?:((?: \w+)*)$", re.M)
-# What a program may call of the C library. Memory, for std's buffers and errors; the text of an error's number; what starts and ends a process.
-MEMORY = {"malloc", "realloc", "free", "memcpy", "memmove", "memset", "memcmp"}
-INPUT_AND_OUTPUT = {"read", "write", "__write", "lseek"}
+# The C functions whose contracts a program's proof rests on.
+ASSUMED = {"libc::read", "libc::write", "os::c::__xpg_strerror_r", "os::c::rattle_errno"}
+# What a built program may call of the C library.
+INPUT_AND_OUTPUT = {"read", "write", "__write"}
 ERRORS = {"__errno_location", "__xpg_strerror_r"}
+COPIES = {"memcpy", "memmove", "memset", "memcmp"}
 PROCESS = {"__libc_start_main", "__cxa_finalize", "__gmon_start__", "__sysv_signal", "__x86_get_cpuid_feature_leaf"}
 TABLES = {"_ITM_deregisterTMCloneTable", "_ITM_registerTMCloneTable"}
-MAY_CALL = MEMORY | INPUT_AND_OUTPUT | ERRORS | PROCESS | TABLES
+MAY_CALL = INPUT_AND_OUTPUT | ERRORS | COPIES | PROCESS | TABLES
+
+
+def assumed(said: str) -> Iterator[tuple[str, set[str]]]:
+    """The crates that were proved in this run, each with the C functions that it assumes."""
+    for crate, section in re.findall(r"^== (\w+)\n(.*?)^rt: \1 proved$", said, re.M | re.S):
+        reached = re.findall(r"^axioms \w+: (?!none reached of )(.*) \(\d+ of the \d+ declared\)$", section, re.M)
+        yield crate, {name for names in reached for name in names.split(", ")}
 
 
 def calls(program: Path) -> set[str]:
@@ -32,19 +42,25 @@ def calls(program: Path) -> set[str]:
 def faults(said: str) -> Iterator[str | None]:
     """For each crate and each built program what is wrong, or None."""
     listed = {name: uses.split() for name, uses in LISTED.findall((REPOSITORY / "crates.txt").read_text(encoding="utf-8"))}
+    programs = sorted(file.parent.name for file in CRATES.glob("*/stdout"))
+    reached = dict(assumed(said))
     for crate in sorted({folder.name for folder in CRATES.iterdir()} | {*listed}):
         beyond = [it for it in listed.get(crate, []) if it not in listed]
         if crate not in listed:
             yield f"crates.txt does not list {crate}"
-        elif not re.search(rf"^rt: {crate} (proved$|is kept: )", said, re.M):
+        elif crate not in reached and not re.search(rf"^rt: {crate} is kept: ", said, re.M):
             yield f"rt ci does not say that {crate} is proved"
+        elif beyond:
+            yield f"{crate} stands on {', '.join(beyond)}"
+        elif crate in reached and reached[crate] != (ASSUMED if crate in programs else set()):
+            yield f"{crate} assumes {', '.join(sorted(reached[crate])) or 'nothing'}"
         else:
-            yield f"{crate} stands on {', '.join(beyond)}" if beyond else None
-    for folder in sorted(file.parent for file in CRATES.glob("*/stdout")):
-        for program in (folder / "out" / folder.name, folder / "out" / f"{folder.name}.by-rattle"):
+            yield None
+    for crate in programs:
+        for program in (CRATES / crate / "out" / crate, CRATES / crate / "out" / f"{crate}.by-rattle"):
             called = calls(program)
             if called - MAY_CALL or not {"read", "write"} <= called:
-                yield f"{program.relative_to(REPOSITORY)} calls {', '.join(sorted(called - MAY_CALL)) or 'neither read nor write'}"
+                yield f"{program.relative_to(REPOSITORY)} calls {', '.join(sorted(called - MAY_CALL)) or 'not both read and write'}"
             else:
                 yield None
 
