@@ -44,7 +44,7 @@ def faults(said: str) -> Iterator[str | None]:
     listed = {name: uses.split() for name, uses in LISTED.findall((REPOSITORY / "crates.txt").read_text(encoding="utf-8"))}
     programs = sorted(file.parent.name for file in CRATES.glob("*/stdout"))
     reached = dict(assumed(said))
-    for crate in sorted({folder.name for folder in CRATES.iterdir()} | {*listed}):
+    for crate in sorted({file.parent.parent.name for file in CRATES.glob("*/src/*.rt")} | {*listed}):
         beyond = [it for it in listed.get(crate, []) if it not in listed]
         if crate not in listed:
             yield f"crates.txt does not list {crate}"
