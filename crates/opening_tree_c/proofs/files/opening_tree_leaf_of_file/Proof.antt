@@ -2,8 +2,8 @@ use borrow.Author.Rules.{rules}
 use Rattle.parameters.specs.declared.ParameterSet.{ParameterSet}
 use Rattle.file_entries.specs.Files.{file_reply, leaf_written}
 use Rattle.opening_tree_c.proofs.Calls.{entry_buffer}
-use Rattle.opening_tree_c.proofs.leaves.opening_tree_leaf_of_file.Statement.{statement}
-use Rattle.opening_tree_c.proofs.leaves.opening_tree_leaf_of_file.Tie as tie
+use Rattle.opening_tree_c.proofs.files.opening_tree_leaf_of_file.Statement.{statement}
+use Rattle.opening_tree_c.proofs.files.opening_tree_leaf_of_file.Tie as tie
 
 returns : tie.Need-returns
 returns c =
