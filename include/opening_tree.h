@@ -1,6 +1,6 @@
 /*
  * Merkle openings over Poseidon2, proved: each function returns and writes what its definition says, whatever numbers it is handed. The
- * library is target/staticlib/libopening_tree_c.a (rt staticlib opening_tree_c), for x86-64 Linux; this header is C99 and C++11.
+ * library is crates/opening_tree_c/out/libopening_tree_c.a (make library), for x86-64 Linux; this header is C99 and C++11.
  *
  * NUMBERS. A word is a number below p = 18446744069414584321 = 2^64 - 2^32 + 1. Others, p itself among them, are no words, and are refused
  * where a word is wanted. opening_tree_product and opening_tree_power want none: they take any numbers, reduced or not.

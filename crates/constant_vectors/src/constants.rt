@@ -1,6 +1,7 @@
 // Lists of round constants. The module docstring of reference/constant_cases.py has the input's grammar.
 use harness::{answers, input, lists, output};
 use opening_tree::Outcome;
+use streams::Output;
 
 // What a line asks for: t, R_F and R_P, how many steps may be made, the list's length, and how the list is printed.
 #[derive(Clone, Copy)]
@@ -32,14 +33,14 @@ fn read_asked(input: &[u8], at: usize) -> Asked {
     }
 }
 
-fn print_asked(asked: Asked) {
-    output::number(asked.width);
-    output::operand(asked.full_rounds);
-    output::operand(asked.partial_rounds);
-    output::text(b" steps");
-    output::operand(asked.steps);
-    output::text(b" length");
-    output::operand(asked.length as u64);
+fn print_asked(out: &mut Output, asked: Asked) {
+    output::number(out, asked.width);
+    output::operand(out, asked.full_rounds);
+    output::operand(out, asked.partial_rounds);
+    output::text(out, b" steps");
+    output::operand(out, asked.steps);
+    output::text(out, b" length");
+    output::operand(out, asked.length as u64);
 }
 
 // The entry, to the whole of a list.
@@ -63,28 +64,29 @@ fn generate_to(asked: Asked, buffer: &mut [u64]) -> Outcome {
 }
 
 // One list. Where the next line begins.
-fn line(input: &[u8], at: usize) -> usize {
+fn line(out: &mut Output, input: &[u8], at: usize) -> usize {
     let asked = read_asked(input, at);
     let before = [7u64; 256];
     let mut list = [7u64; 256];
     let outcome = generate_to(asked, &mut list);
-    print_asked(asked);
-    output::text(b" generate");
+    print_asked(out, asked);
+    output::text(out, b" generate");
     answers::print(
+        out,
         asked.manner,
         outcome,
         lists::part(&before, asked.length),
         lists::part(&list, asked.length),
     );
-    output::end_line();
+    output::end_line(out);
     asked.next
 }
 
 // The first number says how many lines follow.
-pub fn print(input: &[u8]) {
+pub fn print(out: &mut Output, input: &[u8]) {
     let lines = input::number(input, 0);
     let mut at = lines.next;
     for _ in 0..lines.value {
-        at = line(input, at);
+        at = line(out, input, at);
     }
 }

@@ -3,6 +3,7 @@ use crate::{calls, places};
 use harness::{entries, handed, input, lists, output};
 use parameters::ParameterSet;
 use std::num::wrapping_sub_u64;
+use streams::Output;
 
 // A tree's sizes, the number of calls, and where the first call begins.
 #[derive(Clone, Copy)]
@@ -29,6 +30,7 @@ fn read_sizes(input: &[u8], at: usize) -> Sizes {
 }
 
 fn in_part(
+    out: &mut Output,
     input: &[u8],
     set: ParameterSet,
     store: &mut [u64],
@@ -37,26 +39,35 @@ fn in_part(
     number: u64,
 ) -> usize {
     if count <= store.len() {
-        return calls::each(input, at, set, &mut store[..count], number);
+        return calls::each(out, input, at, set, &mut store[..count], number);
     }
-    calls::each(input, at, set, store, number)
+    calls::each(out, input, at, set, store, number)
 }
 
 // One tree, its calls and its places. Where the next tree begins.
-fn tree(input: &[u8], at: usize) -> usize {
+fn tree(out: &mut Output, input: &[u8], at: usize) -> usize {
     let numbers = handed::read_numbers(input, at);
     let given = handed::read_set(input, numbers);
     let set = given.set;
     let mut words = [0u64; 1024];
     let list = lists::read(input, given.next, &mut words, 0);
     let sizes = read_sizes(input, list.next);
-    handed::print_numbers(numbers);
-    output::text(b" build");
-    let mut store = entries::build(set, lists::part(&words, list.count), sizes.store);
-    output::end_line();
-    let next = in_part(input, set, &mut store, sizes.store, sizes.next, sizes.calls);
+    handed::print_numbers(out, numbers);
+    output::text(out, b" build");
+    let mut store = entries::build(out, set, lists::part(&words, list.count), sizes.store);
+    output::end_line(out);
+    let next = in_part(
+        out,
+        input,
+        set,
+        &mut store,
+        sizes.store,
+        sizes.next,
+        sizes.calls,
+    );
     let root = wrapping_sub_u64(sizes.store as u64, set.node_size);
     places::each(
+        out,
         set,
         lists::part(&store, sizes.store),
         sizes.places,
@@ -67,10 +78,10 @@ fn tree(input: &[u8], at: usize) -> usize {
 }
 
 // The first number says how many trees follow.
-pub fn print(input: &[u8]) {
+pub fn print(out: &mut Output, input: &[u8]) {
     let trees = input::number(input, 0);
     let mut at = trees.next;
     for _ in 0..trees.value {
-        at = tree(input, at);
+        at = tree(out, input, at);
     }
 }
