@@ -3,7 +3,7 @@
 #![tactic(auto)]
 
 mod contents;
-mod files;
+mod files_section;
 
 use std::io;
 use streams::Output;
@@ -12,6 +12,6 @@ fn main(rt: HostRuntime) -> io::Result<()> {
     let mut out = Output::new(rt.stdout());
     let mut buffer = [0u8; 65536];
     let count = streams::read_full(&mut rt.stdin(), &mut buffer)?;
-    files::print(&mut out, &buffer[..count]);
+    files_section::print(&mut out, &buffer[..count]);
     out.flush()
 }

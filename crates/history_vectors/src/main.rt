@@ -4,7 +4,7 @@
 
 mod calls;
 mod places;
-mod trees;
+mod trees_section;
 
 use std::io;
 use streams::Output;
@@ -13,6 +13,6 @@ fn main(rt: HostRuntime) -> io::Result<()> {
     let mut out = Output::new(rt.stdout());
     let mut buffer = [0u8; 65536];
     let count = streams::read_full(&mut rt.stdin(), &mut buffer)?;
-    trees::print(&mut out, &buffer[..count]);
+    trees_section::print(&mut out, &buffer[..count]);
     out.flush()
 }
