@@ -1,6 +1,6 @@
 """Shows the halves of M_E in a profile of the built library: how many instructions of a permutation are the sums, and how many M4 in each block.
 
-usage: profile_halves.py, after `rt staticlib opening_tree_c`; needs cc, objdump and valgrind
+usage: profile_halves.py, after `make library`; needs cc, objdump and valgrind
 
 The compiler joins both halves with the full rounds, so that a profiler names one function for them, permutation::rounds::full_rounds12 for
 t = 12. Within its loop they stand one after the other. The loop begins where its last jump leads back to; M4 begins at the first sum with
@@ -46,7 +46,7 @@ def built(width: int) -> Path:
     source.write_text(SOURCE, encoding="utf-8")
     numbers = {"T": width, "FULL": FULL, "PARTIAL": PARTIAL}
     defined = [f"-D{name}={number}" for name, number in numbers.items()]
-    library = REPOSITORY / "target/staticlib/libopening_tree_c.a"
+    library = REPOSITORY / "crates/opening_tree_c/out/libopening_tree_c.a"
     said("cc", "-no-pie", "-O1", f"-I{REPOSITORY}/include", *defined, source, library, "-o", program)
     return program
 

@@ -1,6 +1,6 @@
 /*
  * Merkle openings over Poseidon2, proved: each function returns and writes what its definition says, whatever numbers it is handed. The
- * library is target/staticlib/libopening_tree_c.a (rt staticlib opening_tree_c), for x86-64 Linux; this header is C99 and C++11.
+ * library is crates/opening_tree_c/out/libopening_tree_c.a (make library), for x86-64 Linux; this header is C99 and C++11.
  *
  * NUMBERS. A word is a number below p = 18446744069414584321 = 2^64 - 2^32 + 1. Others, p itself among them, are no words, and are refused
  * where a word is wanted. opening_tree_product and opening_tree_power want none: they take any numbers, reduced or not.
@@ -19,14 +19,6 @@
  * store, and nothing is presumed of it: each call judges the set anew, its kept values by 18 below.
  * Choosing a safe set is the caller's part; opening_tree_published.h has the Poseidon2 authors' instances to start from.
  *
- * GENERATED CONSTANTS. opening_tree_generate makes C by the register that the Poseidon paper takes from the stream cipher Grain. It has 80
- * bits, bit 0 the oldest. At the beginning they are these numbers one after another, each with its highest bit first: 1 in two bits, 0 in
- * four, 64 in twelve, t in twelve, R_F in ten, R_P in ten, and thirty ones. A step makes a new bit, the exclusive or of bits 62, 51, 38,
- * 23, 13 and 0; bit 0 leaves, the others move down by one, and the new bit is bit 79. The new bits of the first 160 steps are thrown away.
- * Those that follow are taken in pairs: if the first of a pair is one its second is kept, and if it is zero nothing is. Each 64 kept bits
- * in turn are a number, the highest bit first. One that is not below p is dropped; the others are drawn, and the first t * R_F + R_P of
- * them are C. So t, R_F and R_P alone fix it.
- *
  * A TREE. A node is l words; a row is k nodes side by side, t words. The compression of a row adds its input: it is the first l words of
  * permutation(row) + row, word by word. Level 0 is the k^h leaves; node i of level j + 1 is the compression of the row that begins at node
  * k * i of level j; level h is the root. Where h is 0, the one leaf is the root. A place is a leaf's index, from 0.
@@ -43,9 +35,9 @@
  * to its first t - l, and it is permuted. The leaf is the first l words of the state at the end.
  *
  * WHAT IS RETURNED. 0 where the work is done, else the number of a refusal: of those that apply the first in the list of names below, where
- * 18 stands after 9 and before 10, 19 after 10 and before 11, and 16 and 17 after 12 and before 13. An exchange judges two sets, the one
- * that it is handed before the one that it makes: the refusals of the first come before those of the second. After a refusal every buffer
- * holds what it held, and so do the array for a set, *result, *made, *level and the sizes that opening_tree_sizes writes.
+ * 18 stands after 9 and before 10, and 16 and 17 after 12 and before 13. An exchange judges two sets, the one that it is handed before the
+ * one that it makes: the refusals of the first come before those of the second. After a refusal every buffer holds what it held, and so do
+ * the array for a set, *result, *made, *level and the sizes that opening_tree_sizes writes.
  * opening_tree_verify returns 0 for an opening that is accepted and for nothing else; for one that is rejected it returns 255, which is no
  * refusal's number. In a function's comment the brackets after a number say what is tested: for 10 the counts of these buffers, for 12 that
  * these numbers are words. The counts of leaves, store and siblings that fit are those of opening_tree_sizes.
@@ -87,7 +79,6 @@ extern "C" {
 #define OPENING_TREE_SINGULAR_DIAGONAL 9   /* no word of D is 0, and 1 plus their inverses is 0 */
 #define OPENING_TREE_BAD_KEPT_VALUES 18    /* the kept values of a set that is handed in are not those of its D */
 #define OPENING_TREE_BAD_LENGTH 10         /* another buffer is not of its exact length, or a push has over 2^32 records */
-#define OPENING_TREE_TOO_FEW_STEPS 19      /* generation: the steps are over before the last word is complete */
 #define OPENING_TREE_BAD_PLACE 11          /* a place is not below k^h, or a level not below h */
 #define OPENING_TREE_NOT_A_WORD 12         /* a number that has to be a word is not one */
 #define OPENING_TREE_FILE_TOO_LONG 16      /* the contents of a file are over 4294967295 bytes */
@@ -122,13 +113,6 @@ uint8_t opening_tree_inverse(uint64_t x, uint64_t *result);
 uint8_t opening_tree_seventh_root(uint64_t y, uint64_t *result);
 
 /* ---- Sets */
-
-/* A generated C, to validate with: the first t * R_F + R_P words that the generator draws for this width and these rounds. steps is how
-   many steps may be made, the first 160 included. Any number may be named: the work ends with the last word, so that UINT64_MAX is as many
-   as it takes, and a larger number never gives another list. Writes all constants. Refusals, in this order: 1, 3, 4, 10 (the constants are
-   not of t * R_F + R_P numbers), 19 (the steps are over before the last word is complete). */
-uint8_t opening_tree_generate(uint64_t width, uint64_t full_rounds, uint64_t partial_rounds, uint64_t steps, uint64_t *constants,
-                              size_t constants_count);
 
 /* The set of these numbers and lists. Writes the whole set, its kept values too. Refusals, in this order: 1 to 9. */
 uint8_t opening_tree_validate(uint64_t width, uint64_t node_size, uint64_t height, uint64_t full_rounds, uint64_t partial_rounds,

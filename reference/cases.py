@@ -321,7 +321,7 @@ def faults(case: Case) -> dict[int, list[Fault]]:
 ORDER = [1, 2, 3, 4, 5, 18, 9, 8, 7, 6, 12, 10]
 
 # The order in which refusals are tested (Rules 8.1).
-TESTED = [1, 2, 3, 4, 5, 6, 7, 8, 9, 18, 10, 19, 11, 12, 16, 17, 13, 15, 14]
+TESTED = [1, 2, 3, 4, 5, 6, 7, 8, 9, 18, 10, 11, 12, 16, 17, 13, 15, 14]
 
 
 def altered(case: Case, *changes: Fault) -> Case:

@@ -6,9 +6,6 @@ Every entry takes any 64-bit numbers and answers a pair: ("word", n), or
 
 P = 18446744069414584321
 
-# The prime's size in bits (Rules 7.12).
-P_BITS = 64
-
 # The seventh root undoes the 7th power, so its exponent is the inverse of 7
 # modulo p - 1, the number of non-zero words.
 SEVENTH_ROOT_EXPONENT = pow(7, -1, P - 1)

@@ -15,7 +15,6 @@ import diagonal_cases
 import field
 import field_vectors
 import file_checks
-import grain_checks
 import history_cases
 import history_vectors
 import matrices
@@ -1114,7 +1113,6 @@ GROUPS = [
     ("program refusals", program_refusals),
     *file_checks.GROUPS,
     *set_checks.GROUPS,
-    *grain_checks.GROUPS,
 ]
 
 

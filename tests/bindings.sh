@@ -1,5 +1,5 @@
 #!/usr/bin/env bash
-# Tests the Rust bindings, after `rt staticlib opening_tree_c`: their own tests, the differential ones among them, the examples of their
+# Tests the Rust bindings, after `make library`: their own tests, the differential ones among them, the examples of their
 # pages, that these pages are made without a warning, and the first example, which must print what the reference does. The last line counts
 # the tests; a file of tests in which none ran is a failure.
 set -eu

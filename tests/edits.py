@@ -1,57 +1,58 @@
-"""Holds each must-fail edit to what it is for, once `rt ci` or `rt must-fail` has tried it: `old:` stands once in its file and is not `new:`, and
-the first error in its log is a fact that does not hold, not a proof that no longer fits the code. With names, the edits of these crates alone.
-The last line counts the edits."""
+"""Holds each must-fail edit to what it is for, by what `rt ci` or `rt must-fail` said of it: each `old:` stands once in its file and is not its
+`new:`, the prover refuses the edited crate, and what it says first is that a fact does not hold, not that a proof no longer fits the code.
+
+usage: edits.py LOG [NAME..], LOG being the file that has what rt printed; with names, the edits of these crates alone. The last line counts
+the edits."""
 import pathlib
 import re
 import sys
 
 ROOT = pathlib.Path(__file__).resolve().parent.parent
-EDIT = re.compile(r"file: ((?:src|specs|proofs)/.+)\nold: (.+)\nnew: (.*)\n")
-# Where the first error stands and what it says, after the name of the declaration.
-ERROR = re.compile(r"^(\S+): error\S*: (?:`[^`]*`: )?(.*(?:\n  .*)*)", re.M)
-# What the prover says of a fact that does not hold: terms that should be the same and are not; a case in which a goal is false; what
-# rewriting leaves and is no equation of a term with itself. It says anything else of a name that is gone, of a step that no longer fits, or
-# of text that it cannot read.
+EDIT = re.compile(r"file: ((?:src|specs|proofs)/.+)\n((?:old: .+\nnew: .*\n)+)")
+# What rt says of an edit that the prover refuses: where, and what follows the name of the declaration there. rt says it otherwise of a text that
+# cannot be read, of a proof that names what is gone, and of a limit that was met.
+REFUSED = re.compile(r"^rt: must-fail (\w+)/(\S+)\.edit: refused, as it must be: (?:note: )?(\S+?):\d+:\d+: (?:error: )?(?:`[^`]*`: )?(.*)", re.M)
+# What is said of a fact that does not hold: what code owes and is not proved; terms that should be the same and are not; a case in which a goal
+# is false; what rewriting leaves and is no equation of a term with itself. Anything else is said of a step that no longer fits.
 FACTS = [re.compile(fact) for fact in (
+    r"it is not proved that ",
     r"(as printed|computed as far as they go), the two (types|sides|values|indices) (differ|first differ|are)\b",
-    r"expected type `(?!tie\.Need-)",
+    r"expected type `(?!tie\.)",
     r"`omega`: the (goal|part `[^`]+` of the goal) does not follow from what it read\. All of that holds, and the (goal|part) fails, at ",
     r"give a proof of that as the last argument, `(rw|simp) L t`",
     r"`[^`]*`\s+≟ `[^`]*`:?\s+does not hold\b",
 )]
 
 
-def fault(path):
-    """What is wrong with an edit, or None."""
+def fault(path, said):
+    """What is wrong with an edit, or None, by what rt said of each that was refused."""
     crate, label = path.parent.parent, path.stem
     edit = EDIT.fullmatch(path.read_text(encoding="utf-8"))
     if not edit:
-        return "it is not the three lines 'file:', 'old:' and 'new:'"
-    file, old, new = edit.groups()
+        return "it is not a line 'file:' and then lines 'old:' and 'new:'"
+    file, pairs = edit.groups()
     source = crate / file
-    times = source.read_text(encoding="utf-8").count(old) if source.is_file() else 0
-    if times != 1:
-        return f"its 'old:' stands {times} times in {file}"
-    if old == new:
-        return "it changes nothing"
-    log = ROOT / "target/must-fail" / crate.name / label / ".log"
-    if not log.is_file():
-        return "it has no log, so it was not tried"
-    error = ERROR.search(log.read_text(encoding="utf-8"))
-    if not error:
-        return "its log has no error"
-    where, said = error.groups()
-    if f"/must-fail/{crate.name}/{label}/proofs/" not in where or not any(fact.match(said) for fact in FACTS):
-        return f"its first error is no fact: {' '.join(said.split())[:200]}"
+    text = source.read_text(encoding="utf-8") if source.is_file() else ""
+    for old, new in re.findall(r"old: (.+)\nnew: (.*)\n", pairs):
+        if text.count(old) != 1:
+            return f"an 'old:' stands {text.count(old)} times in {file}"
+        if old == new:
+            return "it changes nothing"
+        text = text.replace(old, new)
+    if (crate.name, label) not in said:
+        return "rt does not say that it was refused, and why"
+    if not any(fact.match(said[crate.name, label]) for fact in FACTS):
+        return f"what is said first is no fact: {said[crate.name, label]}"
     return None
 
 
+said = {(crate, label): what for crate, label, _, what in REFUSED.findall(pathlib.Path(sys.argv[1]).read_text(encoding="utf-8"))}
 passed = failed = 0
 for path in sorted(ROOT.glob("crates/*/must-fail/*.edit")):
     crate = path.parent.parent.name
-    if len(sys.argv) > 1 and crate not in sys.argv[1:]:
+    if len(sys.argv) > 2 and crate not in sys.argv[2:]:
         continue
-    what = fault(path)
+    what = fault(path, said)
     if what:
         failed += 1
         print(f"{crate}/{path.stem}: {what}")

@@ -1,4 +1,4 @@
-"""The halves of M_E, called in the archive of `measures` after `rt staticlib measures`: against the reference, and that one after the other,
+"""The halves of M_E, called in the archive of `measures` after `tools/library.sh measures`: against the reference, and that one after the other,
 on the high parts of numbers and on the low ones, they are M_E. Also that they are in the library as docs/BENCHMARK.md says. The last line
 counts the checks."""
 
@@ -16,7 +16,6 @@ import poseidon2  # noqa: E402
 import profile_halves  # noqa: E402
 from field import P  # noqa: E402
 
-ARCHIVES = REPOSITORY / "target/staticlib"
 HALF = 2**32
 MOST = 4 * (HALF - 1)
 SMALL = [0, 1, 2, HALF // 2, HALF - 2, HALF - 1]
@@ -27,13 +26,18 @@ Words = list[int]
 Check = tuple[str, Words, Words]
 
 
+def archive(name: str) -> Path:
+    """Where a static library stands."""
+    return REPOSITORY / f"crates/{name}/out/lib{name}.a"
+
+
 def loaded(name: str) -> ctypes.CDLL:
     """An archive as a library that can be called from here."""
     folder = REPOSITORY / "target/tests"
     folder.mkdir(parents=True, exist_ok=True)
     shared = folder / f"lib{name}.so"
-    archive = ["-Wl,--whole-archive", ARCHIVES / f"lib{name}.a", "-Wl,--no-whole-archive"]
-    subprocess.run(["cc", "-shared", "-o", shared, *archive], check=True)
+    whole = ["-Wl,--whole-archive", archive(name), "-Wl,--no-whole-archive"]
+    subprocess.run(["cc", "-shared", "-o", shared, *whole], check=True)
     return ctypes.CDLL(str(shared))
 
 
@@ -76,7 +80,7 @@ def checks() -> Iterator[Check]:
 
 def symbols(name: str) -> str:
     """The names in an archive, a line for each."""
-    return subprocess.run(["nm", ARCHIVES / f"lib{name}.a"], check=True, capture_output=True, text=True).stdout
+    return subprocess.run(["nm", archive(name)], check=True, capture_output=True, text=True).stdout
 
 
 def places() -> Iterator[Check]:

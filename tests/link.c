@@ -225,68 +225,6 @@ static void published(void) {
     known(set, known_12[0][0], known_12[0][1]);
 }
 
-/* A generated list that takes so many steps: written with these, with more and with the most, and with fewer nothing is. */
-static void generates(uint64_t width, uint64_t full_rounds, uint64_t partial_rounds, uint64_t steps, const uint64_t *words) {
-    const uint64_t enough[4] = {steps, steps + 1, UINT64_MAX - 1, UINT64_MAX}, few[6] = {steps - 1, steps - 2, steps / 2, 160, 159, 0};
-    const size_t count = width * full_rounds + partial_rounds;
-    uint64_t list[209];
-    for (int i = 0; i < 4; i++) {
-        fill(list, 9, 209);
-        expect("generate", opening_tree_generate(width, full_rounds, partial_rounds, enough[i], list, count) == 0);
-        expect("the list", same(list, words, count) && all(list + count, 9, 209 - count));
-    }
-    fill(list, 9, 209);
-    for (int i = 0; i < 6; i++) {
-        const uint8_t number = opening_tree_generate(width, full_rounds, partial_rounds, few[i], list, count);
-        expect("too few steps", number == OPENING_TREE_TOO_FEW_STEPS && all(list, 9, 209));
-    }
-}
-
-/* The published lists, the shortest list and the longest. Of the longest the first and the last word are known. */
-static void generated(void) {
-    const uint64_t shortest[8] = {7752008219950841683U, 832715180288927998U,  7687634399312378731U, 5690663173771830141U,
-                                  9043356789445270658U, 1330222789907290667U, 6511001327906149782U, 6380036861163904871U};
-    uint64_t longest[208], set[SIZE], wanted[SIZE];
-    generates(8, 8, 22, 22188, opening_tree_published_constants_8);
-    generates(12, 8, 22, 30500, opening_tree_published_constants_12);
-    generates(4, 2, 0, 2184, shortest);
-    expect("the longest", opening_tree_generate(12, 12, 64, UINT64_MAX, longest, 208) == 0);
-    expect("its first word and its last", longest[0] == 15160898850900462736U && longest[207] == 10303662343332529429U);
-    generates(12, 12, 64, 53056, longest);
-    /* A set of such constants. */
-    make(set, 12, 4, 2, 12, 64, opening_tree_published_diagonal_12, 12, longest, 208);
-    expect("the published", opening_tree_generate(12, 8, 22, UINT64_MAX, longest, 118) == 0);
-    make(set, 12, 4, 2, 8, 22, opening_tree_published_diagonal_12, 12, longest, 118);
-    make(wanted, OPENING_TREE_PUBLISHED_12(4, 2));
-    expect("the published set", same(set, wanted, SIZE));
-}
-
-/* Refused with this number, and the list holds what it held. */
-static int no_list(uint8_t number, uint64_t width, uint64_t full_rounds, uint64_t partial_rounds, uint64_t steps, size_t count) {
-    uint64_t list[208];
-    fill(list, 9, 208);
-    return opening_tree_generate(width, full_rounds, partial_rounds, steps, list, count) == number && all(list, 9, 208);
-}
-
-/* Each refusal of a list, where those after it apply too, and where none does. */
-static void no_lists(void) {
-    expect("t = 5", no_list(OPENING_TREE_BAD_WIDTH, 5, 3, 65, 0, 7) && no_list(1, 5, 2, 0, UINT64_MAX, 10));
-    expect("t = 0", no_list(1, 0, 0, UINT64_MAX, 0, 0) && no_list(1, 0, 2, 8, UINT64_MAX, 8));
-    expect("t = 16", no_list(1, 16, 14, 65, 0, 208) && no_list(1, 16, 12, 16, UINT64_MAX, 208));
-    expect("t = 2^32 + 4", no_list(1, (UINT64_C(1) << 32) + 4, 2, 0, UINT64_MAX, 8));
-    expect("R_F = 3", no_list(OPENING_TREE_BAD_FULL_ROUNDS, 4, 3, 65, 0, 7) && no_list(3, 4, 3, 0, UINT64_MAX, 12));
-    expect("R_F = 0", no_list(3, 4, 0, 65, 0, 0) && no_list(3, 4, 0, 8, UINT64_MAX, 8));
-    expect("R_F = 14", no_list(3, 4, 14, 65, 0, 7) && no_list(3, 4, 14, 0, UINT64_MAX, 56));
-    expect("R_F = 2^62 + 2", no_list(3, 4, (UINT64_C(1) << 62) + 2, 0, UINT64_MAX, 8));
-    expect("R_P = 65", no_list(OPENING_TREE_BAD_PARTIAL_ROUNDS, 4, 2, 65, 0, 7) && no_list(4, 4, 2, 65, UINT64_MAX, 73));
-    expect("R_P = 2^64 - 1", no_list(4, 4, 2, UINT64_MAX, 0, 8) && no_list(4, 4, 2, UINT64_MAX, UINT64_MAX, 7));
-    expect("seven numbers", no_list(OPENING_TREE_BAD_LENGTH, 4, 2, 0, 0, 7) && no_list(10, 4, 2, 0, UINT64_MAX, 7));
-    expect("nine numbers", no_list(10, 4, 2, 0, 0, 9) && no_list(10, 4, 2, 0, UINT64_MAX, 9));
-    expect("no numbers", no_list(10, 4, 2, 0, 0, 0) && no_list(10, 4, 2, 0, UINT64_MAX, 0));
-    expect("the most numbers", no_list(10, 4, 2, 0, 0, SIZE_MAX) && no_list(10, 12, 12, 64, UINT64_MAX, SIZE_MAX));
-    expect("no steps", no_list(OPENING_TREE_TOO_FEW_STEPS, 4, 2, 0, 0, 8) && no_list(19, 12, 12, 64, 0, 208));
-}
-
 static int has_sizes(const uint64_t *set, uint64_t leaves, uint64_t store, uint64_t opening) {
     const uint64_t wanted[3] = {leaves, store, opening};
     uint64_t given[3] = {97, 98, 99};
@@ -843,9 +781,6 @@ static void null_buffers(void) {
     const uint64_t four[4] = {1, 0, 0, 0}, store[6] = {1, 0, 0, 0, 6, 4};
     uint64_t out[6] = {9, 9, 9, 9, 9, 9}, kept[6] = {9, 9, 9, 9, 9, 9}, made = 99;
     const opening_tree_record one = {0, {1, 0, 0, 0, 0, 0}};
-    expect("NULL: generate", opening_tree_generate(8, 8, 22, UINT64_MAX, NULL, 0) == 10);
-    expect("NULL: generate, no steps", opening_tree_generate(8, 8, 22, 0, NULL, 0) == 10);
-    expect("NULL: generate, R_F = 0", opening_tree_generate(8, 0, 0, UINT64_MAX, NULL, 0) == 3);
     expect("NULL: permute", opening_tree_permute(T, NULL, 0) == 10);
     expect("NULL: unpermute", opening_tree_unpermute(T, NULL, 0) == 10);
     expect("NULL: compress, state", opening_tree_compress(T, NULL, 0, out, 2) == 10);
@@ -915,8 +850,6 @@ int main(void) {
     no_sets();
     states();
     published();
-    generated();
-    no_lists();
     sizes();
     refused_sets();
     judged();

@@ -1,11 +1,11 @@
 #!/usr/bin/env bash
-# Links the library into two C programs, after `rt staticlib opening_tree_c`: one that calls every function, and the first example, which
+# Links the library into two C programs, after `make library`: one that calls every function, and the first example, which
 # must print what the reference does. Both are built without a warning as C99 and, where there is a C++ compiler, as C++11. Also what the
 # library needs of the C library is what its header says. The last line counts the checks.
 set -eu
 cd "$(dirname "$0")/.."
 mkdir -p target/tests
-library=target/staticlib/libopening_tree_c.a
+library=crates/opening_tree_c/out/libopening_tree_c.a
 wanted=$(python3 examples/first.py)
 passed=0
 

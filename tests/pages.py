@@ -13,7 +13,7 @@ sys.path.insert(0, str(ROOT / "reference"))
 import cases  # noqa: E402
 import published  # noqa: E402
 
-PAGES = sorted(p for p in ROOT.rglob("*.md") if "target" not in p.relative_to(ROOT).parts)
+PAGES = sorted(p for p in ROOT.rglob("*.md") if not {"target", "out"} & {*p.relative_to(ROOT).parts})
 SHOWN = {"c": "examples/first.c", "rust": "bindings/rust/examples/first.rs"}
 passed, wrong = 0, []
 
@@ -89,7 +89,7 @@ for names, listed in conditions:
 
 KNOW_THE_PRIME = {"modular", "field", "roots", "layers", "permutation", "fields"}
 NAMES = re.compile(r"Goldilocks|goldilocks|18446744069414584321|(?<!\w)(field|layers)::")
-crates = {line.split(":")[0] for line in read("crates.txt").splitlines() if line and not line.startswith("#")}
+crates = {line.split(":")[0].split()[0] for line in read("crates.txt").splitlines() if line and not line.startswith("#")}
 check(KNOW_THE_PRIME < crates, "crates.txt lacks a crate that knows the prime")
 for crate in sorted(crates - KNOW_THE_PRIME):
     named = [path.relative_to(ROOT) for path in sorted((ROOT / "crates" / crate).rglob("*"))

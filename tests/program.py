@@ -17,7 +17,7 @@ import program  # noqa: E402
 from field import P  # noqa: E402
 from parameters import constant_count  # noqa: E402
 
-ROOT = REPOSITORY / "target" / "bin" / "root"
+ROOT = REPOSITORY / "crates" / "root" / "out" / "root"
 MOST_NUMBERS = program.MOST_BYTES // 8
 LARGEST = 2**64 - 1
 SHAPES = [(t, l) for t in (4, 8, 12) for l in range(1, t) if t % l == 0]

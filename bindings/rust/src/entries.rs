@@ -1,4 +1,4 @@
-//! The twenty-four functions of the library, over any numbers and slices. Nothing is presumed: what doesn't fit is refused by a number of
+//! The twenty-three functions of the library, over any numbers and slices. Nothing is presumed: what doesn't fit is refused by a number of
 //! the table, and after a refusal every buffer holds what it held.
 //!
 //! Below t is the width, l the node size, h the height and k = t / l. A store is its levels one after another, leaves first,
@@ -159,32 +159,6 @@ pub fn inverse(x: u64) -> Result<u64, Refusal> {
 pub fn seventh_root(y: u64) -> Result<u64, Refusal> {
     // SAFETY: the result is one number that nothing else refers to.
     written(|result| unsafe { sys::opening_tree_seventh_root(y, result) })
-}
-
-/// The constants that the generator makes for a width and rounds, t × R_F + R_P words, written to the list: a C for [`validate`]. They are
-/// drawn by the register that the Poseidon paper takes from the stream cipher Grain, and t, R_F and R_P alone fix them. Refusals 1, 3, 4, 10
-/// for a list of another length, and 19 if so many steps of the register, the first 160 included, are over before the last word is complete.
-///
-/// Any number of steps may be named. The work ends with the last word, so that `u64::MAX` is as many as it takes, and a larger number
-/// never gives another list. [`constants`](crate::constants) makes a list of the right length.
-///
-/// ```
-/// use opening_tree::entries;
-/// use opening_tree::{published, Refusal};
-///
-/// let mut list = [0; 86];
-/// assert_eq!(entries::generate(8, 8, 22, 22187, &mut list), Err(Refusal::TooFewSteps));
-/// assert_eq!(list, [0; 86]);
-/// entries::generate(8, 8, 22, 22188, &mut list)?;
-/// assert_eq!(list, published::CONSTANTS_8);
-/// assert_eq!(entries::generate(8, 8, 22, u64::MAX, &mut list[1..]), Err(Refusal::BadLength));
-/// # Ok::<(), Refusal>(())
-/// ```
-pub fn generate(width: u64, full_rounds: u64, partial_rounds: u64, steps: u64, constants: &mut [u64]) -> Result<(), Refusal> {
-    // SAFETY: the pointer comes with its slice's length, and the slice that is written is borrowed alone.
-    done(unsafe {
-        sys::opening_tree_generate(width, full_rounds, partial_rounds, steps, constants.as_mut_ptr(), constants.len())
-    })
 }
 
 /// The set of these numbers and lists, with its kept values. Refusals 1 to 9.
@@ -468,7 +442,7 @@ mod tests {
 
     #[test]
     fn numbers_without_a_meaning_are_taken_for_nothing() {
-        for number in 20..=u8::MAX {
+        for number in 19..=u8::MAX {
             assert!(std::panic::catch_unwind(|| done(number)).is_err(), "{number}");
             if number != REJECTED {
                 assert!(std::panic::catch_unwind(|| verdict(number)).is_err(), "{number}");

@@ -19,12 +19,11 @@
 //! verification is `Ok` for an opening that is accepted and for nothing else: one that is rejected or refused is an error,
 //! [`NotAccepted`].
 //!
-//! The types here are for numbers that are kept together; [`entries`] has the library's twenty-four functions over plain slices,
+//! The types here are for numbers that are kept together; [`entries`] has the library's twenty-three functions over plain slices,
 //! for sets and buffers of one's own. A [`ParameterSet`] is validated, and keeps the inverses that the inverse permutation uses, so
 //! that this inverts nothing. [`field`] is the arithmetic.
 //!
-//! Choosing a safe set is the caller's part. [`published`] has the Poseidon2 authors' instances to start from, and
-//! [`ParameterSet::generated`] makes a set whose constants are generated for its rounds, as the Poseidon paper has it.
+//! Choosing a safe set is the caller's part. [`published`] has the Poseidon2 authors' instances to start from.
 
 #![deny(unsafe_code)]
 #![warn(missing_docs, missing_debug_implementations)]
@@ -48,6 +47,6 @@ pub use entries::{SetNumbers, Sizes, SET_SIZE};
 pub use opening::{Collision, Offer, Opening, Root};
 pub use record::Record;
 pub use refusal::Refusal;
-pub use set::{constants, GeneratedNumbers, ParameterSet};
+pub use set::ParameterSet;
 pub use tree::Tree;
 pub use verdict::{NotAccepted, Verdict};

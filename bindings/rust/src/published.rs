@@ -12,8 +12,7 @@
 //! # Ok::<(), NotAccepted>(())
 //! ```
 //!
-//! D is the diagonal less one, here as everywhere: word i after the internal layer is D_i times itself plus the sum of the state. C is
-//! what the generator makes at these widths and rounds: [`constants`](crate::constants) gives the same lists.
+//! D is the diagonal less one, here as everywhere: word i after the internal layer is D_i times itself plus the sum of the state.
 //!
 //! These are the authors' numbers, and that they are safe is the authors' claim: nothing is claimed of it here. Whether they fit
 //! is the caller's part, and so is the node size. Under any set whatever, two rows that compress alike are found by chance after some

@@ -4,8 +4,8 @@ use std::error::Error;
 use std::fmt;
 
 /// Why a call was refused. Of the refusals that apply, the first one tested is given. They are tested in the order of their numbers,
-/// except that 18 comes after 9 and before 10, 19 comes after 10 and before 11, 16 and 17 come after 12 and before 13, and 15 comes before
-/// 14. An exchange tests the set that it is handed by all of them before it tests the set that it makes.
+/// except that 18 comes after 9 and before 10, 16 and 17 come after 12 and before 13, and 15 comes before 14. An exchange tests the set
+/// that it is handed by all of them before it tests the set that it makes.
 ///
 /// ```
 /// use opening_tree::{field, Refusal};
@@ -54,13 +54,11 @@ pub enum Refusal {
     RepeatedPlace = 17,
     /// The kept values of a set that is handed in are not those of its diagonal.
     BadKeptValues = 18,
-    /// Generation: the steps are over before the last word is complete.
-    TooFewSteps = 19,
 }
 
 impl Refusal {
     /// Every refusal, in the order in which they are tested.
-    pub const ALL: [Refusal; 19] = [
+    pub const ALL: [Refusal; 18] = [
         Refusal::BadWidth,
         Refusal::BadNodeSize,
         Refusal::BadFullRounds,
@@ -72,7 +70,6 @@ impl Refusal {
         Refusal::SingularDiagonal,
         Refusal::BadKeptValues,
         Refusal::BadLength,
-        Refusal::TooFewSteps,
         Refusal::BadPlace,
         Refusal::NotAWord,
         Refusal::FileTooLong,
@@ -82,7 +79,7 @@ impl Refusal {
         Refusal::NotAccepted,
     ];
 
-    /// Its number, 1 to 19.
+    /// Its number, 1 to 18.
     pub const fn number(self) -> u8 {
         self as u8
     }
@@ -114,7 +111,6 @@ impl fmt::Display for Refusal {
             Refusal::FileTooLong => "the contents of a file are more than 4294967295 bytes",
             Refusal::RepeatedPlace => "two records of a push have the same place",
             Refusal::BadKeptValues => "the kept values of a set are not those of its diagonal",
-            Refusal::TooFewSteps => "the generator's steps are over before the last word is complete",
         })
     }
 }
@@ -127,12 +123,12 @@ mod tests {
 
     #[test]
     fn every_row_has_its_number() {
-        let numbers = [1, 2, 3, 4, 5, 6, 7, 8, 9, 18, 10, 19, 11, 12, 16, 17, 13, 15, 14];
+        let numbers = [1, 2, 3, 4, 5, 6, 7, 8, 9, 18, 10, 11, 12, 16, 17, 13, 15, 14];
         assert_eq!(Refusal::ALL.map(Refusal::number), numbers);
         for (refusal, number) in Refusal::ALL.into_iter().zip(numbers) {
             assert_eq!(Refusal::from_number(number), Some(refusal));
         }
-        for number in [0, 20, 99, 255] {
+        for number in [0, 19, 99, 255] {
             assert_eq!(Refusal::from_number(number), None);
         }
     }
@@ -142,6 +138,6 @@ mod tests {
         let mut words: Vec<String> = Refusal::ALL.iter().map(Refusal::to_string).collect();
         words.sort();
         words.dedup();
-        assert_eq!(words.len(), 19);
+        assert_eq!(words.len(), 18);
     }
 }

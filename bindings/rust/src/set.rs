@@ -1,4 +1,4 @@
-//! Parameter sets that are validated, generated constants, and what needs no tree.
+//! Parameter sets that are validated, and what needs no tree.
 
 use std::fmt;
 
@@ -31,86 +31,16 @@ impl fmt::Debug for ParameterSet {
     }
 }
 
-/// The numbers that a parameter set with generated constants is made of: those of [`SetNumbers`] without C, which is what [`constants`] gives
-/// for the width and the rounds.
-#[derive(Clone, Copy, Debug, PartialEq, Eq, Hash)]
-pub struct GeneratedNumbers<'a> {
-    /// t
-    pub width: u64,
-    /// l
-    pub node_size: u64,
-    /// h
-    pub height: u64,
-    /// R_F
-    pub full_rounds: u64,
-    /// R_P
-    pub partial_rounds: u64,
-    /// D: t words, as for [`SetNumbers`].
-    pub diagonal: &'a [u64],
-}
-
 /// Where the lists and the kept values stand in the array.
 const DIAGONAL: usize = 5;
 const CONSTANTS: usize = 17;
 const INVERSES: usize = 225;
 const TOTAL_INVERSE: usize = 237;
 
-/// The words of the longest C.
-const MOST_CONSTANTS: u64 = (INVERSES - CONSTANTS) as u64;
-
-/// The constants that the generator makes for a width and rounds, t × R_F + R_P words in order of use: a C for [`SetNumbers`]. They are
-/// drawn by the register that the Poseidon paper takes from the stream cipher Grain, in as many steps as it takes;
-/// [`entries::generate`] is told how many may be made. Refusals 1, 3 and 4.
-///
-/// ```
-/// use opening_tree::{constants, published, Refusal};
-///
-/// assert_eq!(constants(12, 8, 22)?, published::CONSTANTS_12);
-/// assert_eq!(constants(4, 2, 1)?.len(), 4 * 2 + 1);
-/// assert_eq!(constants(12, 7, 22), Err(Refusal::BadFullRounds));
-/// # Ok::<(), Refusal>(())
-/// ```
-pub fn constants(width: u64, full_rounds: u64, partial_rounds: u64) -> Result<Vec<u64>, Refusal> {
-    // Numbers for which C would be longer are refused before its length is.
-    let length = width.saturating_mul(full_rounds).saturating_add(partial_rounds).min(MOST_CONSTANTS);
-    let mut constants = vec![0; size(length)];
-    entries::generate(width, full_rounds, partial_rounds, u64::MAX, &mut constants)?;
-    Ok(constants)
-}
-
 impl ParameterSet {
     /// The set of these numbers, if it is not refused. Refusals 1 to 9.
     pub fn new(numbers: SetNumbers) -> Result<ParameterSet, Refusal> {
         entries::validate(&numbers).map(ParameterSet)
-    }
-
-    /// The set of these numbers with generated [`constants`], if it is not refused. Refusals 1 to 9, as for [`new`](ParameterSet::new).
-    /// Which D and how many rounds are safe is the caller's part.
-    ///
-    /// ```
-    /// use opening_tree::{published, GeneratedNumbers, ParameterSet, Refusal};
-    ///
-    /// let numbers = GeneratedNumbers {
-    ///     width: 12,
-    ///     node_size: 4,
-    ///     height: 2,
-    ///     full_rounds: 8,
-    ///     partial_rounds: 22,
-    ///     diagonal: &published::DIAGONAL_12,
-    /// };
-    /// assert_eq!(ParameterSet::generated(numbers)?, published::width_12(4, 2)?); // the published constants are generated ones
-    ///
-    /// let shorter = ParameterSet::generated(GeneratedNumbers { partial_rounds: 21, ..numbers })?;
-    /// assert_ne!(shorter.numbers().constants[0], published::CONSTANTS_12[0]); // other rounds, and another list
-    /// let odd = GeneratedNumbers { full_rounds: 7, ..numbers };
-    /// assert_eq!(ParameterSet::generated(odd), Err(Refusal::BadFullRounds));
-    /// # Ok::<(), Refusal>(())
-    /// ```
-    pub fn generated(numbers: GeneratedNumbers) -> Result<ParameterSet, Refusal> {
-        let GeneratedNumbers { width, node_size, height, full_rounds, partial_rounds, diagonal } = numbers;
-        // Numbers for which there is no list, by 1, 3 or 4, are refused by validation with one of 1 to 4, before it asks for the list.
-        let constants = &constants(width, full_rounds, partial_rounds).unwrap_or_default();
-        ParameterSet::new(SetNumbers { width, node_size, height, full_rounds, partial_rounds, diagonal, constants })
     }
 
     /// The set with another D. Refusal 6 for a D that is not of t numbers, and 7 to 9 for its words.

@@ -8,14 +8,6 @@ extern "C" {
     pub fn opening_tree_inverse(x: u64, result: *mut u64) -> u8;
     pub fn opening_tree_seventh_root(y: u64, result: *mut u64) -> u8;
 
-    pub fn opening_tree_generate(
-        width: u64,
-        full_rounds: u64,
-        partial_rounds: u64,
-        steps: u64,
-        constants: *mut u64,
-        constants_count: usize,
-    ) -> u8;
     pub fn opening_tree_validate(
         width: u64,
         node_size: u64,

@@ -3,7 +3,6 @@
 mod model;
 mod support;
 
-use model::constants;
 use model::field::{add, inverse, subtract, P};
 use model::set::{Set, DIAGONAL_PLACES};
 use opening_tree::Record;
@@ -103,7 +102,7 @@ fn edges_of_sets(generator: &mut Generator, tally: &mut Tally) {
 /// words that cancel without a zero are refused.
 fn zeros_of_sets(generator: &mut Generator, tally: &mut Tally) {
     for shape in [(4, 1), (8, 2), (12, 6)] {
-        for entry in Entry::ALL.into_iter().filter(|entry| entry.takes_diagonal()) {
+        for entry in Entry::ALL.into_iter().filter(|entry| !entry.is_of_field()) {
             let words: Vec<u64> = (0..shape.0).map(|_| generator.non_zero_word()).collect();
             let set = with_diagonal(set_of(generator, shape, 1, 2, 3), &words);
             let call = done_call(generator, entry, set);
@@ -216,8 +215,7 @@ fn refused_before_kept_values(generator: &mut Generator, call: &Call, tally: &mu
     }
 }
 
-/// Every number of every buffer at the edge of being a word, every length that is one off, every place that is near the last, and every
-/// number of steps that is near what a list takes.
+/// Every number of every buffer at the edge of being a word, every length that is one off, and every place that is near the last.
 fn edges_of_calls(generator: &mut Generator, tally: &mut Tally) {
     for shape in SHAPES {
         for height in 0..=2 {
@@ -279,7 +277,6 @@ fn places_at_edges(call: &Call, tally: &mut Tally) {
     let bound = match call.entry {
         Entry::ReadLevel => call.set.height,
         Entry::ExchangeHeight => 1 + greatest_height(call.set.width, call.set.node_size),
-        Entry::Generate => constants::steps(call.set.width, call.set.full_rounds, call.set.partial_rounds),
         _ => call.set.places() as u64,
     };
     for i in 0..call.numbers.len() {

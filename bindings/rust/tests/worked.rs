@@ -521,10 +521,6 @@ fn every_function_gives_a_known_answer() {
     assert_eq!(entries::inverse(2), Ok(9223372034707292161));
     assert_eq!(entries::seventh_root(128), Ok(2));
 
-    let mut constants = [9; 86];
-    assert_eq!(entries::generate(8, 8, 22, 22188, &mut constants), Ok(()));
-    assert_eq!(constants, published::CONSTANTS_8);
-
     let t = &entries::validate(&T).expect("accepted");
     assert_eq!((t[..9].to_vec(), t[INVERSES + 1]), (vec![4, 2, 1, 2, 0, 1, 2, 3, 4], HALF));
     let balanced = entries::exchange_diagonal(t, BALANCED.diagonal).expect("accepted");

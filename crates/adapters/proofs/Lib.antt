@@ -1,3 +1,2 @@
--- What the walk of `push_first` and the proof of `push_list` cite.
-mod Firsts
+-- What the proof of `push_list` cites.
 mod Listed

@@ -1,4 +1,4 @@
--- The prime in use (Rules 1.1), as everything above the core names it. A set's own is `primeOf` of the set.
+-- The prime in use (Rules 1.1), as everything above the core names it. A set's own is `prime_of` of the set.
 use Rattle.std.specs.Prelude.{ℕ}
 use Rattle.modular.specs.Goldilocks.{p, bytes_in_word, bits_in_prime}
 

@@ -3,12 +3,15 @@
 #![tactic(auto)]
 
 mod contents;
-mod files;
+mod files_section;
 
-use libc::STDIN_FILENO;
+use std::io;
+use streams::Output;
 
-fn main() {
-    let mut buffer = io::large_buffer();
-    let n = io::read_full(STDIN_FILENO, &mut buffer);
-    files::print(&buffer[..n]);
+fn main(rt: HostRuntime) -> io::Result<()> {
+    let mut out = Output::new(rt.stdout());
+    let mut buffer = [0u8; 65536];
+    let count = streams::read_full(&mut rt.stdin(), &mut buffer)?;
+    files_section::print(&mut out, &buffer[..count]);
+    out.flush()
 }

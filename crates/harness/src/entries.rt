@@ -2,6 +2,7 @@
 use crate::{answers, lists, output};
 use opening_tree::{Changed, Outcome, Sizing, Verdict};
 use parameters::ParameterSet;
+use streams::Output;
 
 // The entries that write to a buffer.
 pub const BUILD: u64 = 0;
@@ -58,6 +59,7 @@ fn entry_to_part(
 
 // Prints the entry's answer. The buffer after the call.
 pub fn run(
+    out: &mut Output,
     manner: u64,
     entry: u64,
     set: ParameterSet,
@@ -69,6 +71,7 @@ pub fn run(
     let mut buffer = before;
     let outcome = entry_to_part(entry, set, from, place, &mut buffer, count);
     answers::print(
+        out,
         manner,
         outcome,
         lists::part(&before, count),
@@ -78,37 +81,46 @@ pub fn run(
 }
 
 // The store that building writes, whose answer is printed as a digest.
-pub fn build(set: ParameterSet, leaves: &[u64], size: usize) -> [u64; 1024] {
-    run(answers::DIGEST, BUILD, set, leaves, 0, [7u64; 1024], size)
+pub fn build(out: &mut Output, set: ParameterSet, leaves: &[u64], size: usize) -> [u64; 1024] {
+    run(
+        out,
+        answers::DIGEST,
+        BUILD,
+        set,
+        leaves,
+        0,
+        [7u64; 1024],
+        size,
+    )
 }
 
 // The sizes of the leaves, of a store and of an opening.
-pub fn print_sizes(set: ParameterSet) {
-    output::text(b" sizes");
+pub fn print_sizes(out: &mut Output, set: ParameterSet) {
+    output::text(out, b" sizes");
     match opening_tree::sizes(set) {
         Sizing::Of(sizes) => {
-            output::operand(sizes.leaves);
-            output::operand(sizes.store);
-            output::operand(sizes.opening);
+            output::operand(out, sizes.leaves);
+            output::operand(out, sizes.store);
+            output::operand(out, sizes.opening);
         }
-        Sizing::Refused(number) => answers::refused(number),
+        Sizing::Refused(number) => answers::refused(out, number),
     }
 }
 
-pub fn print_verdict(verdict: Verdict) {
+pub fn print_verdict(out: &mut Output, verdict: Verdict) {
     match verdict {
-        Verdict::Accepted => output::text(b" accepted"),
-        Verdict::Rejected => output::text(b" rejected"),
-        Verdict::Refused(number) => answers::refused(number),
+        Verdict::Accepted => output::text(out, b" accepted"),
+        Verdict::Rejected => output::text(out, b" rejected"),
+        Verdict::Refused(number) => answers::refused(out, number),
     }
 }
 
-pub fn print_changed(changed: Changed) {
+pub fn print_changed(out: &mut Output, changed: Changed) {
     match changed {
         Changed::Compressions(count) => {
-            output::text(b" compressions");
-            output::operand(count);
+            output::text(out, b" compressions");
+            output::operand(out, count);
         }
-        Changed::Refused(number) => answers::refused(number),
+        Changed::Refused(number) => answers::refused(out, number),
     }
 }

@@ -1,6 +1,7 @@
 // The set of a line of the input: its five numbers, and the lists D and C.
 use crate::{input, lists, output};
 use parameters::{ParameterSet, Validation};
+use streams::Output;
 
 // A line's five numbers, and where the number after them begins.
 #[derive(Clone, Copy)]
@@ -29,12 +30,12 @@ pub fn read_numbers(input: &[u8], at: usize) -> Numbers {
     }
 }
 
-pub fn print_numbers(numbers: Numbers) {
-    output::number(numbers.width);
-    output::operand(numbers.node_size);
-    output::operand(numbers.height);
-    output::operand(numbers.full_rounds);
-    output::operand(numbers.partial_rounds);
+pub fn print_numbers(out: &mut Output, numbers: Numbers) {
+    output::number(out, numbers.width);
+    output::operand(out, numbers.node_size);
+    output::operand(out, numbers.height);
+    output::operand(out, numbers.full_rounds);
+    output::operand(out, numbers.partial_rounds);
 }
 
 // What validation answers for a line's set, and where the next line begins.

@@ -3,6 +3,7 @@ ghost use Rattle.std.specs.Prelude.{◌≤◌};
 
 use crate::{generator, input, output};
 use std::num::{wrapping_add_u64, wrapping_sub_u64};
+use streams::Output;
 
 // How many of a buffer's places the list has, and where the number after it begins.
 #[derive(Clone, Copy)]
@@ -133,8 +134,8 @@ pub fn same(a: &[u64], b: &[u64]) -> bool {
 }
 
 // The numbers, each after a space.
-pub fn print(list: &[u64]) {
+pub fn print(out: &mut Output, list: &[u64]) {
     for i in 0..list.len() {
-        output::operand(list[i]);
+        output::operand(out, list[i]);
     }
 }

@@ -1,20 +1,20 @@
 // Lines of text on standard output.
-use libc::STDOUT_FILENO;
+use streams::Output;
 
-pub fn text(bytes: &[u8]) {
-    io::write_all(STDOUT_FILENO, bytes);
+pub fn text(out: &mut Output, bytes: &[u8]) {
+    out.write(bytes);
 }
 
-pub fn number(n: u64) {
-    io::print_decimal(STDOUT_FILENO, n);
+pub fn number(out: &mut Output, n: u64) {
+    out.write_decimal(n);
 }
 
-pub fn end_line() {
-    text(b"\n");
+pub fn end_line(out: &mut Output) {
+    text(out, b"\n");
 }
 
 // A number after a space.
-pub fn operand(n: u64) {
-    text(b" ");
-    number(n);
+pub fn operand(out: &mut Output, n: u64) {
+    text(out, b" ");
+    number(out, n);
 }

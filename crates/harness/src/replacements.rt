@@ -3,6 +3,7 @@ use crate::{entries, handed, input, lists, output};
 use opening_tree::Changed;
 use parameters::ParameterSet;
 use std::num::wrapping_sub_u64;
+use streams::Output;
 
 // A replacement's numbers but for its leaf, and where the leaf begins.
 #[derive(Clone, Copy)]
@@ -29,12 +30,12 @@ fn read_call(input: &[u8], at: usize) -> Call {
 }
 
 // A replacement's line, with the digest of the whole store.
-fn print_line(place: u64, changed: Changed, store: &[u64]) {
-    output::text(b"replace");
-    output::operand(place);
-    entries::print_changed(changed);
-    output::operand(lists::digest(1, store));
-    output::end_line();
+fn print_line(out: &mut Output, place: u64, changed: Changed, store: &[u64]) {
+    output::text(out, b"replace");
+    output::operand(out, place);
+    entries::print_changed(out, changed);
+    output::operand(out, lists::digest(1, store));
+    output::end_line(out);
 }
 
 // The replacement, in the first numbers of a buffer.
@@ -53,6 +54,7 @@ fn replace_in_part(
 
 // One replacement, after a number is put into the store. Where the next one begins.
 fn replacement(
+    out: &mut Output,
     input: &[u8],
     at: usize,
     set: ParameterSet,
@@ -65,12 +67,13 @@ fn replacement(
     lists::put(store, wrapping_sub_u64(call.fault, 1), call.value);
     let leaf = lists::part(&words, list.count);
     let changed = replace_in_part(set, store, call.given, call.place, leaf);
-    print_line(call.place, changed, lists::part(store, size));
+    print_line(out, call.place, changed, lists::part(store, size));
     list.next
 }
 
 // The replacements, in order. Where the next line begins.
 fn replacements(
+    out: &mut Output,
     input: &[u8],
     at: usize,
     set: ParameterSet,
@@ -80,13 +83,13 @@ fn replacements(
 ) -> usize {
     let mut next = at;
     for _ in 0..calls {
-        next = replacement(input, next, set, store, size);
+        next = replacement(out, input, next, set, store, size);
     }
     next
 }
 
 // One tree and its replacements. Where the next line begins.
-pub fn case(input: &[u8], at: usize) -> usize {
+pub fn case(out: &mut Output, input: &[u8], at: usize) -> usize {
     let numbers = handed::read_numbers(input, at);
     let given = handed::read_set(input, numbers);
     let set = given.set;
@@ -96,9 +99,9 @@ pub fn case(input: &[u8], at: usize) -> usize {
     let length = input::number(input, list.next);
     let size = lists::clamped(length.value, 1024);
     let calls = input::number(input, length.next);
-    handed::print_numbers(numbers);
-    output::text(b" build");
-    let mut store = entries::build(set, leaves, size);
-    output::end_line();
-    replacements(input, calls.next, set, &mut store, size, calls.value)
+    handed::print_numbers(out, numbers);
+    output::text(out, b" build");
+    let mut store = entries::build(out, set, leaves, size);
+    output::end_line(out);
+    replacements(out, input, calls.next, set, &mut store, size, calls.value)
 }

@@ -3,7 +3,7 @@ use mathlib.Core.Path.{◌≡◌, refl, sym, ap, subst, ◌∙◌}
 use mathlib.Core.List.{List, [], ◌++◌}
 use Prim.Native.Nat.{ℕ, zero, suc}
 use native.Mathlib.Omega.{arith}
-use Rattle.refusals.specs.Table.{Refusal, first_refusal, Reply, refused, done, reply, after}
+use Rattle.refusals.specs.Table.{Refusal, first_refusal, refused, done, reply, after}
 use Rattle.refusals.proofs.Table.{Numbered, reply_refused, reply_done, first_back, kept_after, written_after}
 
 pub no_row : first_refusal [] ≡ 0

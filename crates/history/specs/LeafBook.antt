@@ -1,5 +1,5 @@
 -- The leaf book (Rules 6.3 to 6.6), with which demand 3 compares a store and the answers. It is the flat list of its leaves, l numbers each.
-use Rattle.std.specs.Prelude.{not, List, [], ◌∷◌, ℕ, ◌*◌, ltb, length}
+use Rattle.std.specs.Prelude.{not, List, [], ◌∷◌, ℕ, ◌*◌, ltb}
 use Rattle.refusals.specs.Table.{Refusal, refusal, not_words, Reply, reply, after}
 use Rattle.parameters.specs.ParameterSet.{prime_of}
 use Rattle.parameters.specs.declared.ParameterSet.{ParameterSet}

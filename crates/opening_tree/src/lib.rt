@@ -3,7 +3,6 @@
 #![tactic(auto)]
 
 pub use change_entries::{Changed, replace};
-pub use constant_entries::generate;
 pub use extraction_entries::{Extraction, extract};
 pub use field_entries::{Answer, difference, inverse, power, product, seventh_root, sum};
 pub use file_entries::leaf_of_file;

@@ -4,7 +4,7 @@
 
 pub mod arithmetic;
 pub mod changes;
-pub mod files;
+pub mod leaves;
 pub mod reading;
 pub mod sets;
 pub mod states;

@@ -109,7 +109,7 @@ module _ {p : ℕ} (pos : 0 < p) where
   unm4_blocks (b ∷ bs) =
       and_block (four _ _ _ _) (words_map pos (mul p (inverse p (8 % p))) (λ x. below pos (inverse p (8 % p) * x)) (rows_times p (unm4_rows p) b)) (unm4_blocks bs)
 
-  -- a matrix times expressions, as `dot` and `rowsTimes` have it
+  -- a matrix times expressions, as `dot` and `rows_times` have it
   abbrev dot_e : List Expr → List Expr → Expr
   dot_e [] xs = num 0
   dot_e (a ∷ row) xs = a ⊗ get_or xs 0 (num 0) ⊕ dot_e row (drop 1 xs)

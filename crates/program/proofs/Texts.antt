@@ -48,9 +48,13 @@ written_more old text more n e f =
     let rest : drop (length more) (drop (length text) old) ≡ drop (length (text ++ more)) old = rw (drop-drop, length-append) in
     f ∙ rw (e, n) (behind [] text (drop (length text) old) more (length text) refl) ∙ ap (λ (xs : List ℕ). (text ++ more) ++ xs) rest
 
-pub written_as : {text other : List ℕ} → text ≡ other → {r : ℕ} {out : List ℕ} (old : List ℕ) → (r ≡ length text) × (out ≡ written text old)
-    → (r ≡ length other) × (out ≡ written other old)
-written_as e old f = (f.0 ∙ ap length e, f.1 ∙ ap (λ (xs : List ℕ). written xs old) e)
+pub record Says (text old : List ℕ) (r : ℕ) (out : List ℕ) : Type 0 where
+  pub value : r ≡ length text
+  pub output_after : out ≡ written text old
+
+pub written_as : {text other : List ℕ} → text ≡ other → {r : ℕ} {out : List ℕ} (old : List ℕ) → r ≡ length text → out ≡ written text old
+    → Says other old r out
+written_as e old n o = record { value = n ∙ ap length e; output_after = o ∙ ap (λ (xs : List ℕ). written xs old) e }
 
 -- a text is no longer than the output that has it
 pub written_fits : (text old : List ℕ) {r : ℕ} {out : List ℕ} → r ≡ length text → out ≡ written text old → r ≤ length out

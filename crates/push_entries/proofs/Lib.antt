@@ -2,5 +2,6 @@
 mod Early
 mod Writing
 mod Passes
+mod Course
 mod Listed
 pub mod Statements

@@ -25,7 +25,8 @@ use Rattle.push_entries.specs.Pushes.{few_records, pushing, push_refusals, push_
 use Rattle.records.specs.Tests.{Pass, pass, keepable, Going}
 use Rattle.pushes.specs.Passes.{Rising, Sweeping, each_of, search_of, levels_of, sweep_of}
 use Rattle.push_entries.specs.Ends.{begin_of, finish_of}
-use Rattle.push_entries.proofs.Passes.{begins, after_tests, after_search, after_marks, after_levels, pushes, at_once, first_asks, second_asks, third_asks, fourth_asks, fifth_asks}
+use Rattle.push_entries.proofs.Passes.{begins, at_once}
+use Rattle.push_entries.proofs.Course as course
 use Rattle.records.specs.Listed.{listed, whole_records}
 use Rattle.push_entries.specs.Listed.{listed_refusals, listed_reply, listed_pushed}
 use Rattle.records.proofs.Listed.{listed_count}
@@ -86,48 +87,31 @@ module _ (s : ParameterSet) (xs ns : List ℕ) where
         let R = at_once s xs rs b begun_is o in
         (R.0 ∙ whole_reply w, R.1 ∙ whole_pushed w)
 
-    tests_are : (t : Tally) → t ≡ (each_of s 0 rs (pass b (replicate keepable 0))).tally → t ≡ after_tests s xs rs
-    tests_are t e = e ∙ ap (λ (u : Tally). (each_of s 0 rs (pass u (replicate keepable 0))).tally) begun_is
-
     module _ (bytes : length ns * 8 < 2 ^ 63) where
       record_bytes : length rs * 56 < 2 ^ 63
       record_bytes = omega (arith, bytes, listed_count ns)
 
-      -- for the count that the code has
-      counts_as : (phase : ℕ) (buffer : List ℕ) (t u : Tally) → t ≡ u → Going s phase buffer u (length rs) → Going s phase buffer t (length ns / 7)
-      counts_as phase buffer t u e G = subst (Going s phase buffer t) (listed_count ns) (subst (λ (v : Tally). Going s phase buffer v (length rs)) (sym e) G)
-
       pub test_asks : Going s 0 (replicate keepable 0) b (length ns / 7)
-      test_asks = counts_as 0 (replicate keepable 0) b (begins s xs rs) begun_is (first_asks s xs rs record_bytes)
+      test_asks = subst (Going s 0 (replicate keepable 0) b) (listed_count ns) (course.test_asks s xs rs record_bytes b begun_is)
 
       module _ (t : Tally) (e : t ≡ (each_of s 0 rs (pass b (replicate keepable 0))).tally) where
         pub search_asks : Going s 3 (replicate map_words 0) t (length ns / 7)
-        search_asks = counts_as 3 (replicate map_words 0) t (after_tests s xs rs) (tests_are t e) (second_asks s xs rs record_bytes)
+        search_asks = subst (Going s 3 (replicate map_words 0) t) (listed_count ns) (course.search_asks s xs rs record_bytes b begun_is t e)
 
         module _ (u : Tally) (f : u ≡ search_of s rs t) where
-          searched : u ≡ after_search s xs rs
-          searched = f ∙ ap (search_of s rs) (tests_are t e)
-
           pub mark_asks : Going s 1 xs u (length ns / 7)
-          mark_asks = counts_as 1 xs u (after_search s xs rs) searched (third_asks s xs rs record_bytes)
+          mark_asks = subst (Going s 1 xs u) (listed_count ns) (course.mark_asks s xs rs record_bytes b begun_is t e u f)
 
           module _ (v : Tally) (ys : List ℕ) (g : (v ≡ (each_of s 1 rs (pass u xs)).tally) × (ys ≡ (each_of s 1 rs (pass u xs)).buffer)) (same : length ys ≡ length xs) where
-            marked : pass v ys ≡ after_marks s xs rs
-            marked = (λ i. pass (g.0 i) (g.1 i)) ∙ ap (λ (w : Tally). each_of s 1 rs (pass w xs)) searched
-
-            marked_tally : v ≡ (after_marks s xs rs).tally
-            marked_tally = ap (λ (w : Pass). w.tally) marked
-
             pub rise_asks : Rising s ys v (length ns / 7)
-            rise_asks = subst (Rising s ys v) (listed_count ns) (fourth_asks s xs rs record_bytes v ys marked_tally same)
+            rise_asks = subst (Rising s ys v) (listed_count ns) (course.rise_asks s xs rs record_bytes b begun_is t e u f v ys g same)
 
             module _ (w : Tally) (zs : List ℕ) (h : (w ≡ (levels_of s rs (pass v ys)).tally) × (zs ≡ (levels_of s rs (pass v ys)).buffer)) (long : length zs ≡ length ys) where
               pub sweep_asks : Sweeping s zs w
-              sweep_asks = fifth_asks s xs rs record_bytes v ys marked_tally same w zs h.0 long
+              sweep_asks = course.sweep_asks s xs rs record_bytes b begun_is t e u f v ys g same w zs h long
 
               pub whole_is_pushed : length ns % 7 ≡ 0 → (x : Tally) (ws : List ℕ) → (x ≡ (sweep_of s (pass w zs)).tally) × (ws ≡ (sweep_of s (pass w zs)).buffer)
                   → (r : Changed) → r ≡ finish_of x → (changed_reply r ≡ listed_reply s xs ns) × (ws ≡ listed_pushed s xs ns)
               whole_is_pushed whole x ws k r l =
-                  let risen : pass w zs ≡ after_levels s xs rs = (λ i. pass (h.0 i) (h.1 i)) ∙ ap (levels_of s rs) marked in
-                  let swept : pass x ws ≡ sweep_of s (after_levels s xs rs) = (λ i. pass (k.0 i) (k.1 i)) ∙ ap (sweep_of s) risen in
-                  (ap changed_reply (l ∙ ap (λ (z : Pass). finish_of z.tally) swept) ∙ (pushes s xs rs).0 ∙ whole_reply whole, ap (λ (z : Pass). z.buffer) swept ∙ (pushes s xs rs).1 ∙ whole_pushed whole)
+                  let P = course.is_pushed s xs rs record_bytes b begun_is t e u f v ys g same w zs h long x ws k r l in
+                  (P.0 ∙ whole_reply whole, P.1 ∙ whole_pushed whole)

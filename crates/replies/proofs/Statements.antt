@@ -1,6 +1,5 @@
 -- A product and a power are never refused, so that the number is 0 and the word is written.
 use mathlib.Core.Path.{refl}
-use Prim.Native.Nat.{ℕ}
 use Rattle.field_entries.specs.Arithmetic.{product_reply, power_reply}
 use Rattle.replies.specs.Replies.{number_of, value_at}
 use Rattle.replies.specs.Statements.{AlwaysGiven}

@@ -7,10 +7,13 @@ mod cases;
 mod exchanges;
 mod sets;
 
-use libc::STDIN_FILENO;
+use std::io;
+use streams::Output;
 
-fn main() {
-    let mut buffer = io::large_buffer();
-    let n = io::read_full(STDIN_FILENO, &mut buffer);
-    cases::print(&buffer[..n]);
+fn main(rt: HostRuntime) -> io::Result<()> {
+    let mut out = Output::new(rt.stdout());
+    let mut buffer = [0u8; 65536];
+    let count = streams::read_full(&mut rt.stdin(), &mut buffer)?;
+    cases::print(&mut out, &buffer[..count]);
+    out.flush()
 }

@@ -2,6 +2,7 @@
 use harness::handed::{HandedSet, Numbers};
 use harness::{answers, handed, lists, output};
 use parameters::{ParameterSet, Validation};
+use streams::Output;
 
 // The digest of all that a set holds, its unused places too.
 fn digest_of(set: ParameterSet) -> u64 {
@@ -12,35 +13,35 @@ fn digest_of(set: ParameterSet) -> u64 {
     lists::digest(second, &total)
 }
 
-fn print_kept(set: ParameterSet) {
+fn print_kept(out: &mut Output, set: ParameterSet) {
     let inverses = set.inverses;
-    output::text(b" kept");
-    lists::print(&inverses);
-    output::operand(set.total_inverse);
+    output::text(out, b" kept");
+    lists::print(out, &inverses);
+    output::operand(out, set.total_inverse);
 }
 
 // What validation answers, or an exchange.
-pub fn print_answer(validation: Validation) {
+pub fn print_answer(out: &mut Output, validation: Validation) {
     let number = validation.number;
     let set = validation.parameters;
     if number != 0 {
-        answers::refused(number);
-        output::operand(digest_of(set));
+        answers::refused(out, number);
+        output::operand(out, digest_of(set));
         return;
     }
-    output::text(b" accepted");
-    output::operand(digest_of(set));
-    print_kept(set);
+    output::text(out, b" accepted");
+    output::operand(out, digest_of(set));
+    print_kept(out, set);
 }
 
 // One set to validate. Where the next line begins.
-pub fn case(input: &[u8], at: usize) -> usize {
+pub fn case(out: &mut Output, input: &[u8], at: usize) -> usize {
     let numbers = handed::read_numbers(input, at);
     let validated = handed::validate(input, numbers);
-    handed::print_numbers(numbers);
-    output::text(b" validate");
-    print_answer(validated.validation);
-    output::end_line();
+    handed::print_numbers(out, numbers);
+    output::text(out, b" validate");
+    print_answer(out, validated.validation);
+    output::end_line(out);
     validated.next
 }
 

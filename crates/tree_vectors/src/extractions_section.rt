@@ -2,6 +2,7 @@
 use harness::{answers, handed, input, lists, output};
 use opening_tree::Extraction;
 use parameters::ParameterSet;
+use streams::Output;
 
 // A list of the line, in its buffer.
 #[derive(Clone, Copy)]
@@ -25,22 +26,23 @@ fn part_of(words: &[u64; 64], count: usize) -> &[u64] {
     lists::part(words, count)
 }
 
-fn print_extraction(extraction: Extraction) {
+fn print_extraction(out: &mut Output, extraction: Extraction) {
     match extraction {
         Extraction::Level(level) => {
-            output::text(b" level");
-            output::operand(level);
+            output::text(out, b" level");
+            output::operand(out, level);
         }
-        Extraction::Refused(number) => answers::refused(number),
+        Extraction::Refused(number) => answers::refused(out, number),
     }
 }
 
-fn print_row(row: &[u64; 16], count: usize) {
-    answers::print_buffer(answers::IN_FULL, lists::part(row, count));
+fn print_row(out: &mut Output, row: &[u64; 16], count: usize) {
+    answers::print_buffer(out, answers::IN_FULL, lists::part(row, count));
 }
 
 // The extraction, to row buffers of these lengths, and what they hold after it.
 fn extract_rows(
+    out: &mut Output,
     set: ParameterSet,
     root: &[u64],
     place: u64,
@@ -66,15 +68,16 @@ fn extract_rows(
         &mut first_row[..first_count],
         &mut second_row[..second_count],
     );
-    print_extraction(extraction);
-    output::text(b" first");
-    print_row(&first_row, first_count);
-    output::text(b" second");
-    print_row(&second_row, second_count);
+    print_extraction(out, extraction);
+    output::text(out, b" first");
+    print_row(out, &first_row, first_count);
+    output::text(out, b" second");
+    print_row(out, &second_row, second_count);
 }
 
 // The extraction on lists of the line.
 fn extract(
+    out: &mut Output,
     set: ParameterSet,
     root: Listed,
     place: u64,
@@ -91,6 +94,7 @@ fn extract(
     let d = second.words;
     let e = second_siblings.words;
     extract_rows(
+        out,
         set,
         part_of(&a, root.count),
         place,
@@ -104,7 +108,7 @@ fn extract(
 }
 
 // One extraction. Where the next line begins.
-pub fn case(input: &[u8], at: usize) -> usize {
+pub fn case(out: &mut Output, input: &[u8], at: usize) -> usize {
     let numbers = handed::read_numbers(input, at);
     let given = handed::read_set(input, numbers);
     let root = read_listed(input, given.next);
@@ -115,9 +119,10 @@ pub fn case(input: &[u8], at: usize) -> usize {
     let second_siblings = read_listed(input, second.next);
     let first_length = input::number(input, second_siblings.next);
     let second_length = input::number(input, first_length.next);
-    handed::print_numbers(numbers);
-    output::text(b" extract");
+    handed::print_numbers(out, numbers);
+    output::text(out, b" extract");
     extract(
+        out,
         given.set,
         root,
         place.value,
@@ -128,6 +133,6 @@ pub fn case(input: &[u8], at: usize) -> usize {
         first_length.value,
         second_length.value,
     );
-    output::end_line();
+    output::end_line(out);
     second_length.next
 }

@@ -3,6 +3,7 @@ use harness::{answers, entries, handed, input, lists, output};
 use opening_tree::Verdict;
 use parameters::ParameterSet;
 use std::num::wrapping_add_u64;
+use streams::Output;
 
 // How many verdicts of some were either.
 #[derive(Clone, Copy)]
@@ -88,17 +89,21 @@ fn damaged_verdicts(
 
 // The verdict on words that stand one after another, and how many are accepted and rejected with a word damaged.
 fn print_verdicts(
+    out: &mut Output,
     set: ParameterSet,
     place: u64,
     words: [u64; 1024],
     count: usize,
     node_size: usize,
 ) {
-    entries::print_verdict(verdict_on(set, place, lists::part(&words, count), node_size));
+    entries::print_verdict(
+        out,
+        verdict_on(set, place, lists::part(&words, count), node_size),
+    );
     let damaged = damaged_verdicts(set, place, words, count, node_size);
-    output::text(b" damaged");
-    output::operand(damaged.accepted);
-    output::operand(damaged.rejected);
+    output::text(out, b" damaged");
+    output::operand(out, damaged.accepted);
+    output::operand(out, damaged.rejected);
 }
 
 // A root, a leaf and siblings, one after another.
@@ -113,6 +118,7 @@ fn joined(root: &[u64], leaf: &[u64], siblings: &[u64]) -> [u64; 1024] {
 
 // One place's line: its opening, and the verdicts on it.
 fn place_line(
+    out: &mut Output,
     manner: u64,
     set: ParameterSet,
     store: &[u64],
@@ -121,10 +127,11 @@ fn place_line(
     leaf: &[u64],
     siblings: usize,
 ) {
-    output::text(b"place");
-    output::operand(place);
-    output::text(b" open");
+    output::text(out, b"place");
+    output::operand(out, place);
+    output::text(out, b" open");
     let opening = entries::run(
+        out,
         manner,
         entries::OPEN,
         set,
@@ -137,13 +144,14 @@ fn place_line(
     let node_size = root.len() as u64;
     let both = wrapping_add_u64(node_size, node_size);
     let count = lists::clamped(wrapping_add_u64(both, siblings as u64), 1024);
-    output::text(b" verify");
-    print_verdicts(set, place, words, count, root.len());
-    output::end_line();
+    output::text(out, b" verify");
+    print_verdicts(out, set, place, words, count, root.len());
+    output::end_line(out);
 }
 
 // A line for each place.
 fn place_lines(
+    out: &mut Output,
     manner: u64,
     set: ParameterSet,
     leaves: &[u64],
@@ -155,14 +163,21 @@ fn place_lines(
     let mut at = 0;
     for place in 0..places {
         let leaf = lists::part(lists::rest(leaves, lists::clamped(at, 1024)), root.len());
-        place_line(manner, set, store, place, root, leaf, siblings);
+        place_line(out, manner, set, store, place, root, leaf, siblings);
         at = wrapping_add_u64(at, root.len() as u64);
     }
 }
 
 // The root that an entry writes, in full.
-fn root_by(entry: u64, set: ParameterSet, from: &[u64], node_size: usize) -> [u64; 1024] {
+fn root_by(
+    out: &mut Output,
+    entry: u64,
+    set: ParameterSet,
+    from: &[u64],
+    node_size: usize,
+) -> [u64; 1024] {
     entries::run(
+        out,
         answers::IN_FULL,
         entry,
         set,
@@ -174,11 +189,12 @@ fn root_by(entry: u64, set: ParameterSet, from: &[u64], node_size: usize) -> [u6
 }
 
 // The sizes, the store, the root of it and without it, and the places' lines.
-fn tree_lines(manner: u64, set: ParameterSet, leaves: &[u64], sizes: Sizes) {
+fn tree_lines(out: &mut Output, manner: u64, set: ParameterSet, leaves: &[u64], sizes: Sizes) {
     let node_size = lists::clamped(set.node_size, 1024);
-    entries::print_sizes(set);
-    output::text(b" build");
+    entries::print_sizes(out, set);
+    output::text(out, b" build");
     let words = entries::run(
+        out,
         manner,
         entries::BUILD,
         set,
@@ -188,12 +204,13 @@ fn tree_lines(manner: u64, set: ParameterSet, leaves: &[u64], sizes: Sizes) {
         sizes.store,
     );
     let store = lists::part(&words, sizes.store);
-    output::text(b" root");
-    let root = root_by(entries::ROOT, set, store, node_size);
-    output::text(b" storeless_root");
-    root_by(entries::STORELESS_ROOT, set, leaves, node_size);
-    output::end_line();
+    output::text(out, b" root");
+    let root = root_by(out, entries::ROOT, set, store, node_size);
+    output::text(out, b" storeless_root");
+    root_by(out, entries::STORELESS_ROOT, set, leaves, node_size);
+    output::end_line(out);
     place_lines(
+        out,
         manner,
         set,
         leaves,
@@ -213,15 +230,16 @@ fn manner_of(is_full: bool) -> u64 {
 }
 
 // One tree, in full or not. Where the next line begins.
-pub fn tree(is_full: bool, input: &[u8], at: usize) -> usize {
+pub fn tree(out: &mut Output, is_full: bool, input: &[u8], at: usize) -> usize {
     let numbers = handed::read_numbers(input, at);
     let given = handed::read_set(input, numbers);
     let set = given.set;
     let mut leaves = [0u64; 1024];
     let list = lists::read(input, given.next, &mut leaves, 0);
     let sizes = read_sizes(input, list.next);
-    handed::print_numbers(numbers);
+    handed::print_numbers(out, numbers);
     tree_lines(
+        out,
         manner_of(is_full),
         set,
         lists::part(&leaves, list.count),

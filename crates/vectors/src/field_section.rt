@@ -2,6 +2,7 @@
 use harness::{generator, output};
 use opening_tree::Answer;
 use std::num::wrapping_add_u64;
+use streams::Output;
 
 const EDGES: u64 = 12;
 
@@ -43,14 +44,14 @@ fn edge(i: u64) -> u64 {
     }
 }
 
-fn name(entry: u64) {
+fn name(out: &mut Output, entry: u64) {
     match entry {
-        0 => output::text(b"sum"),
-        1 => output::text(b"difference"),
-        2 => output::text(b"product"),
-        3 => output::text(b"power"),
-        4 => output::text(b"inverse"),
-        _ => output::text(b"seventh_root"),
+        0 => output::text(out, b"sum"),
+        1 => output::text(out, b"difference"),
+        2 => output::text(out, b"product"),
+        3 => output::text(out, b"power"),
+        4 => output::text(out, b"inverse"),
+        _ => output::text(out, b"seventh_root"),
     }
 }
 
@@ -66,73 +67,73 @@ fn answer_of(entry: u64, a: u64, b: u64) -> Answer {
     }
 }
 
-fn refused(number: u8) {
-    output::text(b"refused ");
-    output::number(number as u64);
+fn refused(out: &mut Output, number: u8) {
+    output::text(out, b"refused ");
+    output::number(out, number as u64);
 }
 
 // A line with the operands.
-fn case_line(entry: u64, a: u64, b: u64) {
-    name(entry);
-    output::operand(a);
+fn case_line(out: &mut Output, entry: u64, a: u64, b: u64) {
+    name(out, entry);
+    output::operand(out, a);
     if entry < 4 {
-        output::operand(b);
+        output::operand(out, b);
     }
     match answer_of(entry, a, b) {
         Answer::Word(w) => {
-            output::text(b" = ");
-            output::number(w);
+            output::text(out, b" = ");
+            output::number(out, w);
         }
         Answer::Refused(n) => {
-            output::text(b" ");
-            refused(n);
+            output::text(out, b" ");
+            refused(out, n);
         }
     }
-    output::end_line();
+    output::end_line(out);
 }
 
 // A line with the answer alone.
-fn answer_line(entry: u64, a: u64, b: u64) {
+fn answer_line(out: &mut Output, entry: u64, a: u64, b: u64) {
     match answer_of(entry, a, b) {
-        Answer::Word(w) => output::number(w),
-        Answer::Refused(n) => refused(n),
+        Answer::Word(w) => output::number(out, w),
+        Answer::Refused(n) => refused(out, n),
     }
-    output::end_line();
+    output::end_line(out);
 }
 
-fn worked() {
-    case_line(2, last(), last());
-    case_line(2, 4294967296, 4294967296);
-    case_line(2, 281474976710656, 281474976710656);
-    case_line(2, fields::order(), fields::order());
-    case_line(2, fields::order() + 1, last());
-    case_line(2, LARGEST, LARGEST);
-    case_line(1, 0, 1);
-    case_line(4, 2, 0);
-    case_line(5, 128, 0);
-    case_line(0, fields::order(), 0);
-    case_line(0, last(), 0);
-    case_line(3, 0, 0);
-    case_line(3, fields::order(), 0);
-    case_line(3, fields::order(), 1);
-    case_line(3, fields::order() + 2, 7);
+fn worked(out: &mut Output) {
+    case_line(out, 2, last(), last());
+    case_line(out, 2, 4294967296, 4294967296);
+    case_line(out, 2, 281474976710656, 281474976710656);
+    case_line(out, 2, fields::order(), fields::order());
+    case_line(out, 2, fields::order() + 1, last());
+    case_line(out, 2, LARGEST, LARGEST);
+    case_line(out, 1, 0, 1);
+    case_line(out, 4, 2, 0);
+    case_line(out, 5, 128, 0);
+    case_line(out, 0, fields::order(), 0);
+    case_line(out, 0, last(), 0);
+    case_line(out, 3, 0, 0);
+    case_line(out, 3, fields::order(), 0);
+    case_line(out, 3, fields::order(), 1);
+    case_line(out, 3, fields::order() + 2, 7);
 }
 
-fn edges_after(entry: u64, a: u64) {
+fn edges_after(out: &mut Output, entry: u64, a: u64) {
     for j in 0..EDGES {
-        case_line(entry, a, edge(j));
+        case_line(out, entry, a, edge(j));
     }
 }
 
-fn edges_of_two(entry: u64) {
+fn edges_of_two(out: &mut Output, entry: u64) {
     for i in 0..EDGES {
-        edges_after(entry, edge(i));
+        edges_after(out, entry, edge(i));
     }
 }
 
-fn edges_of_one(entry: u64) {
+fn edges_of_one(out: &mut Output, entry: u64) {
     for i in 0..EDGES {
-        case_line(entry, edge(i), 0);
+        case_line(out, entry, edge(i), 0);
     }
 }
 
@@ -142,70 +143,70 @@ fn operand(x: u64, mask: u64) -> u64 {
 }
 
 // The base or the first number, and the exponent as it is drawn or the second number.
-fn line_of_two(entry: u64, a: u64, b: u64, mask: u64) {
+fn line_of_two(out: &mut Output, entry: u64, a: u64, b: u64, mask: u64) {
     if entry == 3 {
-        answer_line(entry, operand(a, mask), b);
+        answer_line(out, entry, operand(a, mask), b);
     } else {
-        answer_line(entry, operand(a, mask), operand(b, mask));
+        answer_line(out, entry, operand(a, mask), operand(b, mask));
     }
 }
 
-fn drawn_of_two(entry: u64, seed: u64, lines: u64, mask: u64) {
+fn drawn_of_two(out: &mut Output, entry: u64, seed: u64, lines: u64, mask: u64) {
     let mut x = generator::start(seed);
     for _ in 0..lines {
         let a = generator::next(x);
         x = generator::next(a);
-        line_of_two(entry, a, x, mask);
+        line_of_two(out, entry, a, x, mask);
     }
 }
 
-fn drawn_of_one(entry: u64) {
+fn drawn_of_one(out: &mut Output, entry: u64) {
     let mut x = generator::start(entry);
     for _ in 0..SEEDED_LINES {
         x = generator::next(x);
-        answer_line(entry, operand(x, SEEDED_MASK), 0);
+        answer_line(out, entry, operand(x, SEEDED_MASK), 0);
     }
 }
 
-fn seeded_header(entry: u64) {
-    name(entry);
-    output::text(b" seeded");
-    output::operand(SEEDED_LINES);
-    output::end_line();
+fn seeded_header(out: &mut Output, entry: u64) {
+    name(out, entry);
+    output::text(out, b" seeded");
+    output::operand(out, SEEDED_LINES);
+    output::end_line(out);
 }
 
-fn seeded_of_two(entry: u64) {
-    seeded_header(entry);
-    drawn_of_two(entry, entry, SEEDED_LINES, SEEDED_MASK);
+fn seeded_of_two(out: &mut Output, entry: u64) {
+    seeded_header(out, entry);
+    drawn_of_two(out, entry, entry, SEEDED_LINES, SEEDED_MASK);
 }
 
-fn seeded_of_one(entry: u64) {
-    seeded_header(entry);
-    drawn_of_one(entry);
+fn seeded_of_one(out: &mut Output, entry: u64) {
+    seeded_header(out, entry);
+    drawn_of_one(out, entry);
 }
 
 // The entries that take any numbers, on many that are no words.
-fn unreduced(entry: u64, seed: u64) {
-    name(entry);
-    output::text(b" unreduced");
-    output::operand(UNREDUCED_LINES);
-    output::end_line();
-    drawn_of_two(entry, seed, UNREDUCED_LINES, UNREDUCED_MASK);
+fn unreduced(out: &mut Output, entry: u64, seed: u64) {
+    name(out, entry);
+    output::text(out, b" unreduced");
+    output::operand(out, UNREDUCED_LINES);
+    output::end_line(out);
+    drawn_of_two(out, entry, seed, UNREDUCED_LINES, UNREDUCED_MASK);
 }
 
-pub fn print() {
-    output::text(b"section field\n");
-    worked();
+pub fn print(out: &mut Output) {
+    output::text(out, b"section field\n");
+    worked(out);
     for e in 0..4 {
-        edges_of_two(e);
+        edges_of_two(out, e);
     }
-    edges_of_one(4);
-    edges_of_one(5);
+    edges_of_one(out, 4);
+    edges_of_one(out, 5);
     for e in 0..4 {
-        seeded_of_two(e);
+        seeded_of_two(out, e);
     }
-    seeded_of_one(4);
-    seeded_of_one(5);
-    unreduced(2, 6);
-    unreduced(3, 7);
+    seeded_of_one(out, 4);
+    seeded_of_one(out, 5);
+    unreduced(out, 2, 6);
+    unreduced(out, 3, 7);
 }

@@ -7,11 +7,15 @@ mod field_section;
 mod sets_section;
 mod states_section;
 
-use libc::STDIN_FILENO;
+use std::io;
+use streams::Output;
 
-fn main() {
-    field_section::print();
-    let mut buffer = io::large_buffer();
-    let n = io::read_full(STDIN_FILENO, &mut buffer);
-    cases::print(&buffer[..n]);
+fn main(rt: HostRuntime) -> io::Result<()> {
+    let mut out = Output::new(rt.stdout());
+    field_section::print(&mut out);
+    out.flush()?;
+    let mut buffer = [0u8; 65536];
+    let count = streams::read_full(&mut rt.stdin(), &mut buffer)?;
+    cases::print(&mut out, &buffer[..count]);
+    out.flush()
 }

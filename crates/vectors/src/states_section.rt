@@ -2,6 +2,7 @@
 use harness::{answers, handed, input, lists, output};
 use opening_tree::Outcome;
 use parameters::ParameterSet;
+use streams::Output;
 
 // The entries that work in place.
 const PERMUTE: u64 = 0;
@@ -24,10 +25,18 @@ fn on_part(entry: u64, set: ParameterSet, buffer: &mut [u64], count: usize) -> O
 }
 
 // Prints the entry's answer. The buffer after the call.
-fn run(manner: u64, entry: u64, set: ParameterSet, state: [u64; 16], count: usize) -> [u64; 16] {
+fn run(
+    out: &mut Output,
+    manner: u64,
+    entry: u64,
+    set: ParameterSet,
+    state: [u64; 16],
+    count: usize,
+) -> [u64; 16] {
     let mut buffer = state;
     let outcome = on_part(entry, set, &mut buffer, count);
     answers::print(
+        out,
         manner,
         outcome,
         lists::part(&state, count),
@@ -44,12 +53,13 @@ fn compress_to(set: ParameterSet, state: &[u64], node: &mut [u64], count: usize)
     opening_tree::compress(set, state, node)
 }
 
-fn compress(manner: u64, set: ParameterSet, state: &[u64], count: usize) {
+fn compress(out: &mut Output, manner: u64, set: ParameterSet, state: &[u64], count: usize) {
     let before = [7u64; 16];
     let mut node = [7u64; 16];
     let outcome = compress_to(set, state, &mut node, count);
-    output::text(b" compress");
+    output::text(out, b" compress");
     answers::print(
+        out,
         manner,
         outcome,
         lists::part(&before, count),
@@ -58,37 +68,37 @@ fn compress(manner: u64, set: ParameterSet, state: &[u64], count: usize) {
 }
 
 // The permutation of the state, the inverse of what that left, the compression of the state.
-fn in_full(set: ParameterSet, state: [u64; 16], count: usize, node: usize) {
-    output::text(b" permute");
-    let permuted = run(answers::IN_FULL, PERMUTE, set, state, count);
-    output::text(b" unpermute");
-    run(answers::IN_FULL, UNPERMUTE, set, permuted, count);
-    compress(answers::IN_FULL, set, lists::part(&state, count), node);
+fn in_full(out: &mut Output, set: ParameterSet, state: [u64; 16], count: usize, node: usize) {
+    output::text(out, b" permute");
+    let permuted = run(out, answers::IN_FULL, PERMUTE, set, state, count);
+    output::text(out, b" unpermute");
+    run(out, answers::IN_FULL, UNPERMUTE, set, permuted, count);
+    compress(out, answers::IN_FULL, set, lists::part(&state, count), node);
 }
 
 // Whether two buffers hold the state again.
-fn back(state: [u64; 16], one: [u64; 16], other: [u64; 16]) {
+fn back(out: &mut Output, state: [u64; 16], one: [u64; 16], other: [u64; 16]) {
     if lists::same(&state, &one) && lists::same(&state, &other) {
-        output::text(b" back");
+        output::text(out, b" back");
     } else {
-        output::text(b" lost");
+        output::text(out, b" lost");
     }
 }
 
 // All three entries on the state, and whether the first two undo each other.
-fn digests(set: ParameterSet, state: [u64; 16], count: usize, node: usize) {
-    output::text(b" permute");
-    let permuted = run(answers::DIGEST, PERMUTE, set, state, count);
-    output::text(b" unpermute");
-    let unpermuted = run(answers::DIGEST, UNPERMUTE, set, state, count);
-    compress(answers::DIGEST, set, lists::part(&state, count), node);
-    let one = run(answers::NOTHING, UNPERMUTE, set, permuted, count);
-    let other = run(answers::NOTHING, PERMUTE, set, unpermuted, count);
-    back(state, one, other);
+fn digests(out: &mut Output, set: ParameterSet, state: [u64; 16], count: usize, node: usize) {
+    output::text(out, b" permute");
+    let permuted = run(out, answers::DIGEST, PERMUTE, set, state, count);
+    output::text(out, b" unpermute");
+    let unpermuted = run(out, answers::DIGEST, UNPERMUTE, set, state, count);
+    compress(out, answers::DIGEST, set, lists::part(&state, count), node);
+    let one = run(out, answers::NOTHING, UNPERMUTE, set, permuted, count);
+    let other = run(out, answers::NOTHING, PERMUTE, set, unpermuted, count);
+    back(out, state, one, other);
 }
 
 // One case, in full or not. Where the next line begins.
-pub fn case(is_full: bool, input: &[u8], at: usize) -> usize {
+pub fn case(out: &mut Output, is_full: bool, input: &[u8], at: usize) -> usize {
     let numbers = handed::read_numbers(input, at);
     let given = handed::read_set(input, numbers);
     let set = given.set;
@@ -96,12 +106,12 @@ pub fn case(is_full: bool, input: &[u8], at: usize) -> usize {
     let s = lists::read(input, given.next, &mut state, 0);
     let node = input::number(input, s.next);
     let node_count = lists::clamped(node.value, 16);
-    handed::print_numbers(numbers);
+    handed::print_numbers(out, numbers);
     if is_full {
-        in_full(set, state, s.count, node_count);
+        in_full(out, set, state, s.count, node_count);
     } else {
-        digests(set, state, s.count, node_count);
+        digests(out, set, state, s.count, node_count);
     }
-    output::end_line();
+    output::end_line(out);
     node.next
 }

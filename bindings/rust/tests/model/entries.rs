@@ -2,11 +2,10 @@
 
 use std::collections::HashSet;
 
-use super::constants;
 use super::field;
 use super::files;
 use super::permutation;
-use super::set::{check_rounds, check_set, check_width, refuse, validated, Numbers, Set};
+use super::set::{check_set, refuse, validated, Numbers, Set};
 use super::tree;
 
 const RECORD_NUMBERS: usize = 7;
@@ -56,15 +55,6 @@ pub fn inverse(x: u64) -> Result<u64, u8> {
 pub fn seventh_root(y: u64) -> Result<u64, u8> {
     words(&[y])?;
     Ok(field::seventh_root(y))
-}
-
-pub fn generate(width: u64, full_rounds: u64, partial_rounds: u64, steps: u64, list: &mut [u64]) -> Result<(), u8> {
-    check_width(width)?;
-    check_rounds(full_rounds, partial_rounds)?;
-    lengths(&[(list, (width * full_rounds + partial_rounds) as u128)])?;
-    let made = constants::made(width, full_rounds, partial_rounds, steps).ok_or(19)?;
-    list.copy_from_slice(&made.list);
-    Ok(())
 }
 
 pub fn validate(numbers: &Numbers) -> Result<Set, u8> {

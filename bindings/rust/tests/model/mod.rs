@@ -2,7 +2,6 @@
 //! nothing with the library. A refusal is its number. Each test uses its part.
 #![allow(dead_code)]
 
-pub mod constants;
 pub mod entries;
 pub mod field;
 pub mod files;

@@ -62,24 +62,14 @@ pub fn refuse(number: u8, condition: bool) -> Result<(), u8> {
     }
 }
 
-/// Refusal 1.
-pub fn check_width(width: u64) -> Result<(), u8> {
-    refuse(1, ![4, 8, 12].contains(&width))
-}
-
-/// Refusals 3 and 4.
-pub fn check_rounds(full_rounds: u64, partial_rounds: u64) -> Result<(), u8> {
-    refuse(3, full_rounds % 2 == 1 || full_rounds == 0 || full_rounds > 12)?;
-    refuse(4, partial_rounds > 64)
-}
-
 /// Refusals 1 to 9. Each test presumes that those before it did not apply.
 pub fn check_numbers(numbers: &Numbers) -> Result<(), u8> {
     let Numbers { width: t, node_size: l, height: h, full_rounds, partial_rounds, diagonal, constants } = numbers;
     let not_words = |list: &[u64]| !list.iter().all(|&n| is_word(n));
-    check_width(*t)?;
+    refuse(1, ![4, 8, 12].contains(t))?;
     refuse(2, *l == 0 || t % l != 0 || t / l < 2)?;
-    check_rounds(*full_rounds, *partial_rounds)?;
+    refuse(3, full_rounds % 2 == 1 || *full_rounds == 0 || *full_rounds > 12)?;
+    refuse(4, *partial_rounds > 64)?;
     refuse(5, *h > 32 || (*t as u128 / *l as u128).pow(*h as u32) > 1 << 32)?;
     refuse(6, diagonal.len() as u64 != *t || constants.len() as u64 != t * full_rounds + partial_rounds)?;
     refuse(7, not_words(diagonal) || not_words(constants))?;

@@ -15,7 +15,6 @@ pub enum Entry {
     Power,
     Inverse,
     SeventhRoot,
-    Generate,
     Validate,
     ExchangeDiagonal,
     ExchangeHeight,
@@ -36,14 +35,13 @@ pub enum Entry {
 }
 
 impl Entry {
-    pub const ALL: [Entry; 24] = [
+    pub const ALL: [Entry; 23] = [
         Entry::Sum,
         Entry::Difference,
         Entry::Product,
         Entry::Power,
         Entry::Inverse,
         Entry::SeventhRoot,
-        Entry::Generate,
         Entry::Validate,
         Entry::ExchangeDiagonal,
         Entry::ExchangeHeight,
@@ -65,12 +63,7 @@ impl Entry {
 
     /// Whether it is one of the field's functions.
     pub fn is_of_field(self) -> bool {
-        (self as usize) < Entry::Generate as usize
-    }
-
-    /// Whether it judges a D, that of a set or one for a set.
-    pub fn takes_diagonal(self) -> bool {
-        self as usize >= Entry::Validate as usize
+        (self as usize) < Entry::Validate as usize
     }
 
     pub fn takes_set(self) -> bool {
@@ -88,7 +81,6 @@ impl Entry {
             Entry::Product | Entry::Power => &[],
             Entry::Inverse => &[12, 13],
             field if field.is_of_field() => &[12],
-            Entry::Generate => &[1, 3, 4, 10, 19],
             Entry::Validate => &[1, 2, 3, 4, 5, 6, 7, 8, 9],
             Entry::ExchangeDiagonal => &[6],
             Entry::ExchangeHeight | Entry::Sizes => &[],
@@ -105,8 +97,8 @@ impl Entry {
     }
 }
 
-/// The arguments of a call. The numbers and buffers are in the order of the function's own parameters; the field's functions, generation
-/// and validation ignore the set, and all but `leaf_of_file` the contents.
+/// The arguments of a call. The numbers and buffers are in the order of the function's own parameters; the field's functions and
+/// validation ignore the set, and all but `leaf_of_file` the contents.
 #[derive(Clone, Debug, PartialEq)]
 pub struct Call {
     pub entry: Entry,
@@ -204,7 +196,7 @@ impl Call {
         Call { entry: Entry::Sizes, set, numbers: vec![], buffers: vec![], contents: vec![] }
     }
 
-    /// The D of its set, or what validation is given for it; nothing for a function that takes none.
+    /// The D of its set, or what validation is given for it; nothing for a function of the field.
     pub fn diagonal(&self) -> &[u64] {
         match self.entry {
             Entry::Validate => &self.buffers[0],
@@ -234,9 +226,6 @@ impl Call {
             (Entry::Power, &[base, exponent], []) => numbered(entries::power(base, exponent)).into(),
             (Entry::Inverse, &[x], []) => numbered(entries::inverse(x)).into(),
             (Entry::SeventhRoot, &[y], []) => numbered(entries::seventh_root(y)).into(),
-            (Entry::Generate, &[width, full_rounds, partial_rounds, steps], [constants]) => {
-                numbered(entries::generate(width, full_rounds, partial_rounds, steps, constants)).into()
-            }
             (Entry::Validate, &[width, node_size, height, full_rounds, partial_rounds], [diagonal, constants]) => {
                 let numbers = SetNumbers { width, node_size, height, full_rounds, partial_rounds, diagonal, constants };
                 numbered(entries::validate(&numbers)).into()
@@ -276,9 +265,6 @@ impl Call {
             (Entry::Power, &[base, exponent], []) => entries::power(base, exponent).into(),
             (Entry::Inverse, &[x], []) => entries::inverse(x).into(),
             (Entry::SeventhRoot, &[y], []) => entries::seventh_root(y).into(),
-            (Entry::Generate, &[width, full_rounds, partial_rounds, steps], [constants]) => {
-                entries::generate(width, full_rounds, partial_rounds, steps, constants).into()
-            }
             (Entry::Validate, &[width, node_size, height, full_rounds, partial_rounds], [diagonal, constants]) => {
                 let (diagonal, constants) = (diagonal.clone(), constants.clone());
                 let numbers = Numbers { width, node_size, height, full_rounds, partial_rounds, diagonal, constants };

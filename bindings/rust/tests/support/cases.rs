@@ -5,7 +5,6 @@ use opening_tree::Record;
 
 use super::calls::{Call, Entry};
 use super::generator::Generator;
-use crate::model::constants;
 use crate::model::field::{self, P};
 use crate::model::set::{validated, Numbers, Set, CONSTANT_PLACES};
 use crate::model::tree;
@@ -229,16 +228,6 @@ fn contents(generator: &mut Generator, set: &Set) -> Vec<u8> {
     contents
 }
 
-/// An allowance of steps for a generated list that takes so many: just these, or more.
-fn allowance(generator: &mut Generator, taken: u64) -> u64 {
-    match generator.below(4) {
-        0 => taken,
-        1 => taken + 1 + generator.below(64) as u64,
-        2 => taken + generator.number() % (u64::MAX - taken),
-        _ => u64::MAX,
-    }
-}
-
 /// A call of the function under the set.
 pub fn call(generator: &mut Generator, entry: Entry, set: Set) -> Call {
     let (t, l) = (set.width as usize, set.node_size as usize);
@@ -254,12 +243,6 @@ pub fn call(generator: &mut Generator, entry: Entry, set: Set) -> Call {
         Entry::SeventhRoot => {
             let word = generator.word();
             (vec![if generator.once_in(2) { field::power(word, 7) } else { word }], vec![])
-        }
-        Entry::Generate => {
-            let [width, _, _, full_rounds, partial_rounds] = set.five();
-            let taken = constants::steps(width, full_rounds, partial_rounds);
-            let list = generator.junk(set.used_constants().len());
-            (vec![width, full_rounds, partial_rounds, allowance(generator, taken)], vec![list])
         }
         Entry::Validate => {
             let Numbers { width, node_size, height, full_rounds, partial_rounds, diagonal, constants } = set.numbers();

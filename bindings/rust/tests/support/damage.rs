@@ -3,17 +3,11 @@
 use super::calls::{Call, Entry};
 use super::cases::{fill_beyond, repeat_place};
 use super::generator::Generator;
-use crate::model::constants;
 use crate::model::field::{add, inverse, is_word, subtract, P};
-use crate::model::set::{check_rounds, check_width, Set};
+use crate::model::set::Set;
 
 /// What is put in the place of any number.
 pub const EDGES: [u64; 4] = [P - 1, P, P + 1, u64::MAX];
-
-/// What is put in the place of a width, and of full and of partial rounds.
-const WIDTHS: [u64; 19] = [0, 1, 2, 3, 4, 5, 6, 7, 8, 9, 10, 11, 12, 13, 16, 24, 1 << 32, (1 << 32) + 4, u64::MAX];
-const FULL_ROUNDS: [u64; 16] = [0, 1, 2, 3, 5, 7, 9, 11, 12, 13, 14, 16, 1 << 32, (1 << 32) + 2, u64::MAX - 1, u64::MAX];
-const PARTIAL_ROUNDS: [u64; 9] = [0, 63, 64, 65, 66, 128, 1 << 32, 1 << 63, u64::MAX];
 
 /// What is put in the place of a height.
 const HEIGHTS: [u64; 23] =
@@ -25,9 +19,6 @@ pub fn damage(generator: &mut Generator, call: &mut Call) {
         let at = generator.below(call.numbers.len());
         call.numbers[at] = generator.pick(&[0, 1, P - 1, P, P + 1, u64::MAX]);
         return;
-    }
-    if call.entry == Entry::Generate {
-        return damage_generation(generator, call);
     }
     if call.entry == Entry::Validate {
         return damage_validation(generator, call);
@@ -71,25 +62,6 @@ fn place(generator: &mut Generator, call: &Call) -> u64 {
     };
     let places = [0, bound.wrapping_sub(1), bound, bound.saturating_add(1), 1 << 32, 1 << 63, u64::MAX];
     generator.pick(&places)
-}
-
-/// What generation is given: another width, other rounds, fewer steps, or another list to write to.
-fn damage_generation(generator: &mut Generator, call: &mut Call) {
-    let ([width, full_rounds, partial_rounds, steps], [list]) = (&mut call.numbers[..], &mut call.buffers[..]) else {
-        panic!("generation has four numbers and a list")
-    };
-    match generator.below(7) {
-        0 => *width = generator.pick(&WIDTHS),
-        1 => *full_rounds = generator.pick(&FULL_ROUNDS),
-        2 => *partial_rounds = generator.pick(&PARTIAL_ROUNDS),
-        3 => resize(generator, list),
-        4 => *steps = generator.pick(&[0, 1, 2, 159, 160, 161, 288, *steps / 2, steps.wrapping_sub(1)]),
-        5 if check_width(*width).and(check_rounds(*full_rounds, *partial_rounds)).is_ok() => {
-            let taken = constants::steps(*width, *full_rounds, *partial_rounds);
-            *steps = generator.pick(&[taken - 256, taken - 2, taken - 1, taken, taken + 1]);
-        }
-        _ => put(list, generator, EDGES.to_vec()),
-    }
 }
 
 /// What validation is given: a list of another length, or another number.
@@ -145,13 +117,16 @@ pub fn others(value: u64) -> Vec<u64> {
 fn damage_numbers(generator: &mut Generator, numbers: &mut [u64; 5], diagonal: &mut [u64], constants: &mut [u64]) {
     let [width, node_size, height, full_rounds, partial_rounds] = numbers;
     match generator.below(8) {
-        0 => *width = generator.pick(&WIDTHS),
+        0 => *width = generator.pick(&[0, 1, 2, 3, 4, 5, 6, 7, 8, 9, 10, 11, 12, 13, 16, 24, 1 << 32, (1 << 32) + 4, u64::MAX]),
         1 => {
             let sizes = [0, 1, 2, 3, 4, 5, 6, 7, 8, 9, 12, 13, 24, *width, width.wrapping_mul(2), (1 << 32) + 2, u64::MAX];
             *node_size = generator.pick(&sizes);
         }
-        2 => *full_rounds = generator.pick(&FULL_ROUNDS),
-        3 => *partial_rounds = generator.pick(&PARTIAL_ROUNDS),
+        2 => {
+            *full_rounds =
+                generator.pick(&[0, 1, 2, 3, 5, 7, 9, 11, 12, 13, 14, 16, 1 << 32, (1 << 32) + 2, u64::MAX - 1, u64::MAX])
+        }
+        3 => *partial_rounds = generator.pick(&[0, 63, 64, 65, 66, 128, 1 << 32, 1 << 63, u64::MAX]),
         4 => *height = generator.pick(&HEIGHTS),
         5 => put(if generator.once_in(2) { diagonal } else { constants }, generator, EDGES.to_vec()),
         6 => put_zeros(generator, diagonal),

@@ -8,7 +8,7 @@ use crate::model::field::is_word;
 
 /// Refusals are at their numbers.
 const DONE: usize = 0;
-const LAST_REFUSAL: usize = 19;
+const LAST_REFUSAL: usize = 18;
 const REJECTED: usize = LAST_REFUSAL + 1;
 
 /// The refusal of a file of 2^32 bytes or more. No call that is drawn has so many; tests/files.rs has.
@@ -162,7 +162,7 @@ impl Tally {
                 _ => false,
             };
             assert_eq!(self.with_no_words[entry as usize] == 0, wants_words_alone, "{entry:?}");
-            assert!(!entry.takes_diagonal() || self.with_zero[entry as usize] >= 100, "{entry:?}");
+            assert!(entry.is_of_field() || self.with_zero[entry as usize] >= 100, "{entry:?}");
             assert!(!entry.takes_set() || self.with_beyond[entry as usize] >= 100, "{entry:?}");
             assert!(!entry.takes_set() || counts[BAD_KEPT_VALUES] >= 1_000, "{entry:?}");
         }

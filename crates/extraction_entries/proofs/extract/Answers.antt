@@ -1,32 +1,26 @@
 use mathlib.Core.Path.{◌≡◌, sym, ◌∙◌}
 use Prim.Native.Nat.{◌<◌}
-use borrow.Author.Rules.{rules}
 use Rattle.refusals.specs.Table.{first_refusal}
 use Rattle.merkle.specs.Lists.{lowest}
 use Rattle.merkle.specs.Extraction.{collide_at}
 use Rattle.paths.specs.Levels.{level_or}
 use Rattle.trees.specs.SetTrees.{tree_of_set}
 use Rattle.trees.proofs.SetTrees as tree_of
-use Rattle.extraction_entries.specs.Extraction.{Pair, pair, extraction_reply, extract_refusals}
+use Rattle.extraction_entries.specs.Extraction.{pair, extraction_reply, extract_refusals}
 use Rattle.extraction_entries.proofs.AcceptedPairs.{Paired}
 use Rattle.extraction_entries.proofs.Extracted.{paired, level_below, extracted, refused_extract}
 use Rattle.extraction_entries.proofs.extract.Goals as goal
-use Rattle.extraction_entries.proofs.extract.Goals.{After-lowest_level-level, Else-number-ne0, Start}
+use Rattle.extraction_entries.proofs.extract.Goals.{After-lowest_level-level, Else-number-ne0}
 
 pub returns-then-number-ne0 : goal.returns-then-number-ne0
 unfolding extraction_reply
 returns-then-number-ne0 c = refused_extract _ _ _ _ c.refusal_of_extract-number.ensures c.if-number-ne0.true
 
 -- what is handed in; nothing of it is refused
-abbrev two : Start → Pair
-two s =
-    let a = s.args in
-    pair a.root.now a.place a.first.now a.first_siblings.now a.second.now a.second_siblings.now
-
-none : (c : Else-number-ne0) → let s = c.before.before.before.before.before.before.before.before.before.before.before in first_refusal (extract_refusals c.args.set (two s) c.args.first_row.now c.args.second_row.now) ≡ 0
+none : (c : Else-number-ne0) → let a = c.args in let t = pair a.root.now a.place a.first.now a.first_siblings.now a.second.now a.second_siblings.now in first_refusal (extract_refusals c.args.set t c.args.first_row.now c.args.second_row.now) ≡ 0
 none c = sym c.refusal_of_extract-number.ensures ∙ c.if-number-ne0.false
 
-passed : (c : Else-number-ne0) → let s = c.before.before.before.before.before.before.before.before.before.before.before in Paired c.args.set (two s) c.args.first_row.now c.args.second_row.now
+passed : (c : Else-number-ne0) → let a = c.args in let t = pair a.root.now a.place a.first.now a.first_siblings.now a.second.now a.second_siblings.now in Paired c.args.set t c.args.first_row.now c.args.second_row.now
 passed c = paired _ _ _ _ (none c)
 
 pub dimensions-d-requires : goal.dimensions-d-requires
@@ -39,11 +33,11 @@ lowest_level-level-requires c =
 
 -- the level that was found is the lowest at which the rows collide
 level : (j : After-lowest_level-level)
-    → let s = start j.before.before.before.before.before.before in let t = two s in let h = s.args.set.height in
-    j.lowest_level-level.result ≡ level_or h (lowest (collide_at (tree_of_set s.args.set) t.place t.first_leaf t.first_siblings t.second_leaf t.second_siblings) h)
+    → let a = j.args in let t = pair a.root.now a.place a.first.now a.first_siblings.now a.second.now a.second_siblings.now in let h = a.set.height in
+    j.lowest_level-level.result ≡ level_or h (lowest (collide_at (tree_of_set a.set) t.place t.first_leaf t.first_siblings t.second_leaf t.second_siblings) h)
 level j = rw j.dimensions-d.ensures at j.lowest_level-level.ensures
 
-below : (j : After-lowest_level-level) → j.lowest_level-level.result < (start j.before.before.before.before.before.before).args.set.height
+below : (j : After-lowest_level-level) → j.lowest_level-level.result < j.args.set.height
 below j = level_below _ _ _ _ ((sym j.refusal_of_extract-number.ensures ∙ j.if-number-ne0.false)) _ (level j)
 
 pub copy_row-requires : goal.copy_row-requires
@@ -59,6 +53,6 @@ copy_row-requires-2 c =
 pub returns : goal.returns
 unfolding extraction_reply
 returns c =
-    extracted _ _ _ _ (none (sized c.before.before.before.before.before.before.before.before.before.before.before.before).before) _ (level (goal.at.returns c).After-lowest_level-level)
-    (rw (sized c.before.before.before.before.before.before.before.before.before.before.before.before).dimensions.ensures at c.copy_row.ensures)
-    (rw (sized c.before.before.before.before.before.before.before.before.before.before.before.before).dimensions.ensures at c.copy_row-2.ensures)
+    extracted _ _ _ _ (none (goal.at.returns c).Else-number-ne0) _ (level (goal.at.returns c).After-lowest_level-level)
+    (rw c.dimensions-d.ensures at c.copy_row.ensures)
+    (rw c.dimensions-d.ensures at c.copy_row-2.ensures)

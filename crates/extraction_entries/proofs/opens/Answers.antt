@@ -1,5 +1,4 @@
 use mathlib.Core.Path.{sym}
-use borrow.Author.Rules.{rules}
 use borrow.Author.Tests.{eq-eqb, ne_eqb}
 use Rattle.refusals.proofs.LengthsAndWords.{and_false_left, and_true_left}
 use Rattle.extraction_entries.proofs.opens.Goals as goal

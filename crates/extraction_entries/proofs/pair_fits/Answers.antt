@@ -1,7 +1,6 @@
 use mathlib.Core.Path.{◌≡◌, sym, ◌∙◌}
 use mathlib.Core.Bool.{Bool, true, ◌&&◌}
-use borrow.Author.Rules.{rules}
-use borrow.Author.Tests.{eq-eqb, ne_eqb, not-true, not-false}
+use borrow.Author.Tests.{eq-eqb, ne_eqb}
 use Rattle.refusals.proofs.LengthsAndWords.{and_false_left, and_true_left}
 use Rattle.tree_entries.specs.Trees.{has}
 use Rattle.extraction_entries.specs.Extraction.{pair_fits}
@@ -21,19 +20,19 @@ returns-then-not-opens c q b = rw (← b) (sym (behind-root (goal.at.returns-the
 
 behind-first : (c : Else-not-opens) (rest : Bool)
     → let a = c.args in (has a.root.now a.set.node_size && ((has a.first.now a.set.node_size && has a.first_siblings.now a.beside) && rest)) ≡ rest
-behind-first c rest = behind-root c.before.before _ ∙ and_true_left _ rest (sym c.opens.ensures ∙ c.if-not-opens.false)
+behind-first c rest = and_true_left _ _ (eq-eqb _ _ c.if-root-set.false) ∙ and_true_left _ rest (sym c.opens.ensures ∙ c.if-not-opens.false)
 
 pub returns-then-not-opens-2 : goal.returns-then-not-opens-2
 unfolding pair_fits
-returns-then-not-opens-2 c q b = rw (← b) (sym (behind-first c.before.before _ ∙ and_false_left _ _ (sym c.opens-2.ensures ∙ c.if-not-opens-2.true)))
+returns-then-not-opens-2 c q b = rw (← b) (sym (behind-first (goal.at.returns-then-not-opens-2 c).Else-not-opens _ ∙ and_false_left _ _ (sym c.opens-2.ensures ∙ c.if-not-opens-2.true)))
 
 second-opens : (c : Else-not-opens-2) → let a = c.args in (has a.second.now a.set.node_size && has a.second_siblings.now a.beside) ≡ true
 second-opens c = sym c.opens-2.ensures ∙ c.if-not-opens-2.false
 
 pub returns-then-first_row-set : goal.returns-then-first_row-set
 unfolding pair_fits
-returns-then-first_row-set c q b = rw (← b) (sym (behind-first c.before.before.before.before _ ∙ and_true_left _ _ (second-opens (goal.at.returns-then-first_row-set c).Else-not-opens-2) ∙ and_false_left _ _ (ne_eqb _ _ c.if-first_row-set.true)))
+returns-then-first_row-set c q b = rw (← b) (sym (behind-first (goal.at.returns-then-first_row-set c).Else-not-opens _ ∙ and_true_left _ _ (second-opens (goal.at.returns-then-first_row-set c).Else-not-opens-2) ∙ and_false_left _ _ (ne_eqb _ _ c.if-first_row-set.true)))
 
 pub returns : goal.returns
 unfolding pair_fits
-returns c q b = rw (← b) (sym (behind-first c.before.before.before.before.before _ ∙ and_true_left _ _ (second-opens (goal.at.returns c).Else-not-opens-2) ∙ and_true_left _ _ (eq-eqb _ _ c.if-first_row-set.false)))
+returns c q b = rw (← b) (sym (behind-first (goal.at.returns c).Else-not-opens _ ∙ and_true_left _ _ (second-opens (goal.at.returns c).Else-not-opens-2) ∙ and_true_left _ _ (eq-eqb _ _ c.if-first_row-set.false)))

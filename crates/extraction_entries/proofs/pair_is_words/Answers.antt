@@ -1,6 +1,4 @@
 use mathlib.Core.Path.{sym, ◌∙◌}
-use borrow.Author.Rules.{rules}
-use borrow.Author.Tests.{not-true, not-false}
 use Rattle.refusals.proofs.LengthsPlacesAndWords.{left_not_words, words_behind}
 use Rattle.extraction_entries.proofs.pair_is_words.Goals as goal
 

@@ -1,9 +1,7 @@
 use mathlib.Core.Path.{◌≡◌, sym, ap, ◌∙◌}
-use mathlib.Core.List.{List, []}
-use Prim.Native.Nat.{ℕ}
+use mathlib.Core.List.{[]}
 use native.Mathlib.Omega.{arith}
 use lib.ListN.{length}
-use borrow.Author.Rules.{rules}
 use Rattle.refusals.proofs.Table.{refused_equations, done_equations, left_as}
 use Rattle.state_entries.specs.Permutation.{outcome_reply}
 use Rattle.reader_entries.specs.Copies.{copy_refusals, copy_reply, copied}

@@ -1,5 +1,4 @@
-use mathlib.Core.Path.{◌≡◌, sym, ◌∙◌}
-use borrow.Author.Rules.{rules}
+use mathlib.Core.Path.{sym, ◌∙◌}
 use Rattle.reader_entries.proofs.Readings.{no_words, level_words, equal_parts}
 use Rattle.reader_entries.proofs.levels.words_of_read.Goals as goal
 

@@ -1,0 +1,6 @@
+use borrow.Author.Rules.{rules}
+use Rattle.opening_tree_c.proofs.Calls.{same_value}
+use Rattle.opening_tree_c.proofs.arithmetic.opening_tree_sum.Goals as goal
+
+pub returns : goal.returns
+returns c = same_value _ c.of_answer.ensures c.sum.ensures

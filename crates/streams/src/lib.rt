@@ -1,0 +1,90 @@
+// Standard input and output, for the programs: input read into a buffer of the caller's, and output through a buffer of its own.
+#![tactic(auto)]
+
+ghost use Rattle.std.specs.Prelude.{◌≡◌, ◌<◌, ◌≤◌, length, take, IfOk};
+ghost use Rattle.streams.specs.declared.TheConstants.{CAPACITY};
+ghost use Rattle.std.specs.Io.KnownBytes.{Consumes, IsAtEnd};
+
+use std::io;
+use std::io::{Print, Read, Stdout};
+
+// Reads to the end, or until the buffer is full: how many bytes stand at its start.
+pub fn read_full<R: Read>(from: &mut R, buffer: &mut [u8]) -> io::Result<usize>
+    ensures within { IfOk result (λ n. n ≤ length buffer.new) }
+    ensures bytes { IfOk result (λ n. Consumes (R.remaining from.old) (R.remaining from.new) (take n buffer.new)) }
+    ensures end { IfOk result (λ n. n < length buffer.new → IsAtEnd (R.remaining from.new)) }
+{
+    let mut done = 0;
+    while done < buffer.len() {
+        let count = from.read(&mut buffer[done..])?;
+        if count == 0 {
+            return Ok(done);
+        }
+        done += count;
+    }
+    Ok(done)
+}
+
+const CAPACITY: usize = 4096;
+
+// Standard output. After a write that failed nothing more is written, and `flush` gives the error.
+#[derive(Drop)]
+pub struct Output {
+    stdout: Stdout,
+    waiting: [u8; CAPACITY],
+    count: usize,
+    failed: Option<io::Error>,
+    ghost within: { count ≤ CAPACITY },
+}
+
+impl Output {
+    pub fn new(stdout: Stdout) -> Output {
+        Output {
+            stdout,
+            waiting: [0; CAPACITY],
+            count: 0,
+            failed: None,
+        }
+    }
+
+    pub fn write(&mut self, bytes: &[u8]) {
+        for byte in bytes {
+            self.push(*byte);
+        }
+    }
+
+    // The digits before the last, and the last.
+    pub fn write_decimal(&mut self, number: u64) {
+        if number >= 10 {
+            self.write_decimal(number / 10);
+        }
+        self.push(b'0' + (number % 10) as u8);
+    }
+
+    // Writes what waits. The error is that of the first write that failed.
+    pub fn flush(&mut self) -> io::Result<()> {
+        self.write_waiting();
+        match self.failed {
+            Some(error) => Err(error),
+            None => Ok(()),
+        }
+    }
+
+    fn push(&mut self, byte: u8) {
+        if self.count == CAPACITY {
+            self.write_waiting();
+        }
+        self.waiting[self.count] = byte;
+        self.count += 1;
+    }
+
+    fn write_waiting(&mut self)
+        ensures { self.new.count ≡ 0 }
+    {
+        let count = self.count;
+        self.count = 0;
+        if self.failed.is_none() {
+            self.failed = self.stdout.write_all(&self.waiting[..count]).err();
+        }
+    }
+}
