@@ -1,6 +1,5 @@
 -- Sums and differences of 64 bits that wrap, and their correction by 2^32 - 1: 2^64 is p + 2^32 - 1.
-use Rattle.std.proofs.Common.{◌≡◌, ℕ, ◌+◌, ◌-◌, ◌*◌, ◌/◌, ◌%◌, ◌<◌, ◌≤◌, ◌⊎◌, sym, ap, ◌∙◌, inl, inr, lt_of_le_of_lt, mod-lt, mod-eq_of_lt, div-lt_iff_lt-mul, mul-le-mul, add_comm, arith, lit<}
-use native.Mathlib.Nat.{div-add-mod}
+use Rattle.std.proofs.Common.{◌≡◌, ℕ, ◌+◌, ◌-◌, ◌*◌, ◌/◌, ◌%◌, ◌<◌, ◌≤◌, ◌⊎◌, sym, ap, ◌∙◌, inl, inr, lt_of_le_of_lt, mod-lt, mod-eq_of_lt, div-lt_iff_lt-mul, mul-le-mul, arith, lit<}
 use Rattle.modular.specs.Congruence.{◌≈⟨◌⟩◌}
 use Rattle.modular.specs.Goldilocks.{p}
 use Rattle.modular.proofs.Congruence.{eq≈, sym≈, trans≈, multiple≈}

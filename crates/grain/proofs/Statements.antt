@@ -1,12 +1,12 @@
 -- What is claimed of the words that are drawn holds.
-use mathlib.Core.Path.{◌≡◌, sym, ap, ◌∙◌}
+use mathlib.Core.Path.{◌≡◌, ap, ◌∙◌}
 use mathlib.Core.List.{List, ◌++◌}
 use Prim.Native.Nat.{ℕ, ◌+◌, ◌-◌, ◌≤◌, ◌<◌}
 use native.Mathlib.Omega.{arith}
 use lib.ListN.{length, take, drop, length-append}
 use lib.Seq.{take-append_seam}
 use Rattle.grain.specs.Register.{register, new_bits, after_steps}
-use Rattle.grain.specs.Drawing.{kept, complete_numbers, words_among, drawn}
+use Rattle.grain.specs.Drawing.{kept, complete_numbers, drawn}
 use Rattle.grain.specs.Statements.{DrawingClaims}
 use Rattle.grain.proofs.Steps.{drop-new_bits, new_bits-add}
 use Rattle.grain.proofs.Drawing.{Begins, drawing_begins, words_are}

@@ -1,18 +1,18 @@
 -- Laws of parts, of a part put in place of another, of joined lists, of sums, of the tests on lists, and of the lowest number that a test accepts.
 use mathlib.Core.Path.{◌≡◌, refl, sym, ap, ◌∙◌}
 use mathlib.Core.Logic.{◌≢◌}
-use mathlib.Core.Bool.{Bool, true, false, ◌&&◌, cond, false≢true, true≢false}
+use mathlib.Core.Bool.{Bool, true, false, cond, false≢true, true≢false}
 use mathlib.Core.List.{List, [], ◌∷◌, ◌++◌, append_assoc, append-nil}
 use mathlib.Core.Option.{Option, none, some}
 use Prim.Native.Nat.{ℕ, zero, suc, ◌+◌, ◌*◌, ◌-◌, ◌≤◌, ◌<◌}
 use native.Mathlib.Nat.{add-suc, add-zero, suc-mul, zero-mul, mul-zero}
 use native.Mathlib.Decide.{dec_lt}
 use native.Mathlib.Omega.{arith}
-use lib.Dec.{ltb, eqb}
-use lib.ListN.{length, take, drop, get_or, length-append, length-drop, take-append-drop, get_or-append}
+use lib.Dec.{eqb}
+use lib.ListN.{length, take, drop, get_or, length-append, length-drop, get_or-append}
 use lib.Seq.{take_at, drop_at, take-append-le, drop-append-le, take-append-add, drop-append-add, drop-drop, take-take, take-add, length-take-le, drop-append_seam, take_all, take-length, drop-length, paste, get_or-append-add}
-use borrow.Author.Tests.{ltb-true, lt-ltb, eqb-true, eq-eqb}
-use Rattle.modular.specs.Arithmetic.{is_word, all_words}
+use borrow.Author.Tests.{eqb-true, eq-eqb}
+use Rattle.modular.specs.Arithmetic.{all_words}
 use Rattle.modular.proofs.Words.{words_append, words_take, words_drop, and_true, left_true, right_true}
 use Rattle.merkle.specs.Lists.{part, put, joined, sum, same, or_else, lowest}
 

@@ -1,12 +1,12 @@
 -- Powers of natural numbers, and that the power by squaring is the power.
-use mathlib.Core.Path.{◌≡◌, refl, sym, ap, ap₂, ◌∙◌}
-use Prim.Native.Nat.{ℕ, zero, suc, ◌+◌, ◌*◌, ◌-◌, ◌/◌, ◌%◌, ◌^◌, ◌<◌, ◌≤◌}
+use mathlib.Core.Path.{◌≡◌, sym, ap, ◌∙◌}
+use Prim.Native.Nat.{ℕ, zero, suc, ◌+◌, ◌*◌, ◌/◌, ◌%◌, ◌^◌, ◌<◌}
 use native.Mathlib.Nat.{add-zero, add-suc, mul-zero, mul-one, one-mul, mul-suc, mul_assoc, mul_comm, pow-zero, pow-suc, div-add-mod}
 use native.Mathlib.Omega.{arith}
 use Rattle.modular.specs.Arithmetic.{pow}
 use Rattle.modular.specs.Congruence.{◌≈⟨◌⟩◌}
 use Rattle.modular.specs.Certificate.{power_by_squares, computed_power}
-use Rattle.modular.proofs.Congruence.{refl≈, eq≈, sym≈, trans≈, mod≈, mul≈, pow≈}
+use Rattle.modular.proofs.Congruence.{eq≈, trans≈, mod≈, mul≈, pow≈}
 
 pub pow-add : (a m n : ℕ) → a ^ (m + n) ≡ a ^ m * a ^ n
 pow-add a m zero = ap (λ (x : ℕ). a ^ x) (add-zero m) ∙ sym (mul-one (a ^ m)) ∙ ap (λ (x : ℕ). a ^ m * x) (sym (pow-zero a))

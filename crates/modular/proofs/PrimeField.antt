@@ -1,9 +1,9 @@
 -- The laws of every prime of the record: inverses, no zero divisors, seventh roots.
-use mathlib.Core.Path.{◌≡◌, refl, sym, ap, ap₂, ◌∙◌}
+use mathlib.Core.Path.{◌≡◌, refl, sym, ap, ◌∙◌}
 use mathlib.Core.Logic.{◌⊎◌, inl, inr}
 use mathlib.Core.Bool.{Bool, true, false, cond, false≢true}
 use Prim.Native.Nat.{ℕ, zero, suc, ◌+◌, ◌*◌, ◌-◌, ◌%◌, ◌^◌, ◌≤◌, ◌<◌}
-use native.Mathlib.Nat.{mul-zero, zero-mul, mul_comm, mul_assoc, one-mul, mod-lt, mod-eq_of_lt, zero-mod, pow-suc, pow-succ', add-suc, add-zero}
+use native.Mathlib.Nat.{mul-zero, zero-mul, mul_comm, mul_assoc, one-mul, mod-lt, mod-eq_of_lt, zero-mod, pow-suc, pow-succ'}
 use native.Mathlib.Decide.{ℕ_discrete, dec_lt}
 use native.Mathlib.Omega.{arith}
 use lib.Dec.{eqb}

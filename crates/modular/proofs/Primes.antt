@@ -1,8 +1,8 @@
 -- Prime numbers: Euclid's lemma, prime factors, and that the test by trial finds primes.
-use mathlib.Core.Path.{◌≡◌, refl, sym, ap, ◌∙◌, subst}
+use mathlib.Core.Path.{◌≡◌, sym, ap, ◌∙◌, subst}
 use mathlib.Core.Logic.{◌≢◌}
 use mathlib.Core.Bool.{Bool, true, false, ◌&&◌, not}
-use Prim.Native.Nat.{ℕ, zero, suc, ◌+◌, ◌*◌, ◌-◌, ◌/◌, ◌%◌, ◌^◌, ◌≤◌, ◌<◌}
+use Prim.Native.Nat.{ℕ, zero, suc, ◌+◌, ◌*◌, ◌/◌, ◌%◌, ◌^◌, ◌≤◌, ◌<◌}
 use native.Mathlib.Nat.{add-zero, zero-add, zero-mul, mul-add, mul-zero, mul-one, add-mod, mod-add-mod, mod-eq_of_lt, mod_self, mul-mod_left, mul-le-mul, zero-mod, div-add-mod, pow-zero, pow-suc}
 use native.Mathlib.Decide.{ℕ_discrete, dec_lt}
 use native.Mathlib.Omega.{arith}
@@ -10,7 +10,7 @@ use lib.Dec.{T, ltb, eqb, ltb→lt, T_not}
 use borrow.Author.Tests.{lt-ltb, eq-eqb}
 use Rattle.modular.specs.Certificate.{proper_divisor, no_divisor, small_prime}
 use Rattle.modular.specs.Congruence.{◌≈⟨◌⟩◌}
-use Rattle.modular.proofs.Congruence.{sym≈, trans≈, mul≈, refl≈, mod≈}
+use Rattle.modular.proofs.Congruence.{mul≈, refl≈}
 use Rattle.modular.proofs.Generator.{Least, least, Closed, Generator, generator}
 
 pub record Prime (q : ℕ) : Type 0 where

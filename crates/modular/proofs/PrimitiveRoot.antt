@@ -1,18 +1,18 @@
 -- What a passed certificate shows: the order of g is p - 1, so its powers are all the numbers from 1 to p - 1, and Fermat's theorem holds.
-use mathlib.Core.Path.{◌≡◌, refl, sym, ap, ◌∙◌}
+use mathlib.Core.Path.{◌≡◌, sym, ap, ◌∙◌}
 use mathlib.Core.Logic.{◌≢◌}
-use mathlib.Core.Bool.{Bool, true, false, ◌&&◌, not}
+use mathlib.Core.Bool.{not}
 use mathlib.Core.List.{List, [], ◌∷◌}
-use Prim.Native.Nat.{ℕ, zero, suc, ◌+◌, ◌*◌, ◌-◌, ◌/◌, ◌%◌, ◌^◌, ◌≤◌, ◌<◌}
+use Prim.Native.Nat.{ℕ, ◌+◌, ◌*◌, ◌-◌, ◌/◌, ◌%◌, ◌^◌, ◌<◌}
 use native.Mathlib.Nat.{mul-zero, mul-one, one-mul, mul_comm, mul_left_comm, mul-mod_right, mul-div_cancel_left, mod-lt, mod-eq_of_lt, div-le_self, pow-zero}
 use native.Mathlib.Decide.{ℕ_discrete, dec_lt}
 use native.Mathlib.Omega.{arith}
-use lib.Dec.{T, ltb, eqb, ltb→lt, eqb→eq, T_not}
+use lib.Dec.{T, eqb, ltb→lt, eqb→eq, T_not}
 use borrow.Author.Tests.{eq-eqb}
 use Rattle.modular.specs.Arithmetic.{pow}
 use Rattle.modular.specs.Congruence.{◌≈⟨◌⟩◌}
 use Rattle.modular.specs.Certificate.{computed_power, small_prime, product, none_reaches, certifies}
-use Rattle.modular.specs.PrimeField.{Fermat, Certified}
+use Rattle.modular.specs.PrimeField.{Certified}
 use Rattle.modular.proofs.Congruence.{refl≈, eq≈, sym≈, trans≈, mod≈, mul≈, pow≈}
 use Rattle.modular.proofs.Powers.{pow-add, pow-mul, computed_power_lem}
 use Rattle.modular.proofs.Generator.{Closed, Generator, generator, multiple}

@@ -1,10 +1,10 @@
 -- A normaliser of sums, products and negatives: an identity of integer polynomials is a congruence modulo every p, and of natural
 -- numbers an equation. Both are shown by a test that the checker computes, so a goal is closed by `tt`.
-use mathlib.Core.Path.{◌≡◌, refl, sym, ap, ap₂, subst, ◌∙◌}
+use mathlib.Core.Path.{◌≡◌, refl, sym, ap, ap₂, ◌∙◌}
 use mathlib.Core.List.{List, [], ◌∷◌}
 use mathlib.Core.Bool.{Bool, true, false, ◌&&◌}
-use Prim.Native.Nat.{ℕ, zero, suc, ◌+◌, ◌*◌, ◌-◌, ◌%◌, ◌<◌, ◌≤◌}
-use native.Mathlib.Nat.{add_assoc, add_comm, add_left_comm, add-zero, zero-add, mul_assoc, mul_comm, mul_left_comm, mul-add, add-mul, one-mul, mul-one, zero-mul, mul-zero, suc-mul}
+use Prim.Native.Nat.{ℕ, suc, ◌+◌, ◌*◌, ◌-◌, ◌%◌, ◌<◌}
+use native.Mathlib.Nat.{add_assoc, add_comm, add_left_comm, add-zero, zero-add, mul_assoc, mul_left_comm, mul-add, add-mul, one-mul, mul-one, zero-mul, mul-zero, suc-mul}
 use native.Mathlib.Omega.{arith}
 use lib.ListN.{get_or}
 use lib.Dec.{T, eqb, leb, ltb, eqb→eq}

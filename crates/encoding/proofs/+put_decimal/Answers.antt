@@ -1,4 +1,4 @@
-use Rattle.std.proofs.Common.{ℕ, ◌+◌, ◌/◌, ◌%◌, refl, ap, length, arith}
+use Rattle.std.proofs.Common.{◌+◌, ◌/◌, ◌%◌, refl, ap, length, arith}
 use Rattle.octets.specs.Numbers.{decimal}
 use Rattle.octets.proofs.Decimal.{decimal_digit, decimal_more, decimal_longer}
 use Rattle.encoding.proofs.Texts.{put_byte, put_more}

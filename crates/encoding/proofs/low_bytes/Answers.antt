@@ -1,7 +1,6 @@
 use mathlib.Core.Path.{ap}
 use Prim.Native.Nat.{ℕ, ◌%◌}
 use Rattle.encoding.proofs.Bytes.{shifted, some_shifted}
-use borrow.Author.Rules.{rules}
 use Rattle.encoding.proofs.low_bytes.Goals as goal
 
 pub nonzero_rem-result : goal.nonzero_rem-result

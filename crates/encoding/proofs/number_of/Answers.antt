@@ -1,5 +1,4 @@
 use Rattle.encoding.proofs.Bytes.{number_is}
-use borrow.Author.Rules.{rules}
 use Rattle.encoding.proofs.number_of.Goals as goal
 
 pub returns : goal.returns

@@ -1,4 +1,4 @@
-use Rattle.std.proofs.Common.{arith, rules}
+use Rattle.std.proofs.Common.{arith}
 use Rattle.modular.specs.Arithmetic.{sub}
 use Rattle.field.proofs.Wrapping.{difference_borrowed, difference_unborrowed}
 use Rattle.field.proofs.difference.Goals as goal

@@ -1,4 +1,4 @@
-use Rattle.std.proofs.Common.{sym, ◌∙◌, rules}
+use Rattle.std.proofs.Common.{sym, ◌∙◌}
 use Rattle.modular.proofs.Goldilocks.{goldilocks_laws}
 use Rattle.field.proofs.inverse.Goals as goal
 

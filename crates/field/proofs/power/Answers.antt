@@ -1,7 +1,6 @@
-use Rattle.std.proofs.Common.{◌≡◌, ℕ, ◌/◌, ◌%◌, ◌^◌, ◌≤◌, sym, ap, ◌∙◌, div-one, arith, rules}
+use Rattle.std.proofs.Common.{◌≡◌, ℕ, ◌/◌, ◌%◌, ◌^◌, sym, ap, ◌∙◌, div-one, arith}
 use native.Mathlib.Nat.{pow-zero}
 use Rattle.modular.specs.Arithmetic.{pow}
-use Rattle.modular.specs.Congruence.{◌≈⟨◌⟩◌}
 use Rattle.modular.specs.Goldilocks.{p}
 use Rattle.modular.proofs.Congruence.{eq≈}
 use Rattle.modular.proofs.Powers.{pow-one}

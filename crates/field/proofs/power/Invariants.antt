@@ -1,12 +1,7 @@
 -- The loop's invariant: r stands for the base to the power of the exponent's bits from i on.
-use Rattle.std.proofs.Common.{◌≡◌, ℕ, ◌/◌, ◌%◌, ◌^◌, ◌≤◌, sym, ap, ◌∙◌, div-one, arith, rules}
-use native.Mathlib.Nat.{pow-zero}
-use Rattle.modular.specs.Arithmetic.{pow}
+use Rattle.std.proofs.Common.{◌/◌, ◌^◌, ◌≤◌}
 use Rattle.modular.specs.Congruence.{◌≈⟨◌⟩◌}
 use Rattle.modular.specs.Goldilocks.{p}
-use Rattle.modular.proofs.Congruence.{eq≈}
-use Rattle.modular.proofs.Powers.{pow-one}
-use Rattle.modular.proofs.Bits.{highest_bit, zero_bit, one_bit}
 use Rattle.field.proofs.power.Given as goal
 
 abbrev pub invariant-loop-i : goal.invariant-loop-i

@@ -1,4 +1,4 @@
-use Rattle.std.proofs.Common.{◌∙◌, rules}
+use Rattle.std.proofs.Common.{◌∙◌}
 use Rattle.modular.specs.Arithmetic.{mul}
 use Rattle.field.proofs.product.Goals as goal
 

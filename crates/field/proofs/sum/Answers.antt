@@ -1,4 +1,4 @@
-use Rattle.std.proofs.Common.{ℕ, ◌+◌, ◌%◌, ap, ◌∙◌, arith, rules}
+use Rattle.std.proofs.Common.{ℕ, ◌+◌, ◌%◌, ap, ◌∙◌, arith}
 use Rattle.modular.specs.Arithmetic.{add}
 use Rattle.modular.specs.Goldilocks.{p}
 use Rattle.field.proofs.Wrapping.{ε, rest_is}

@@ -1,7 +1,6 @@
 use mathlib.Core.List.{[], ◌∷◌}
 use Rattle.modular.specs.Goldilocks.{p}
 use Rattle.blocks.proofs.Slices.{added_four}
-use borrow.Author.Rules.{rules}
 use Rattle.permutation.proofs.add_input.Goals as goal
 
 pub returns : goal.returns

@@ -4,7 +4,6 @@ use Rattle.modular.specs.Goldilocks.{p}
 use Rattle.poseidon2.specs.Compression.{compress}
 use Rattle.blocks.specs.Blocks.{flat}
 use Rattle.blocks.proofs.Slices.{whole, all_of, width_small, whole_fits, compress_code}
-use borrow.Author.Rules.{rules}
 use Rattle.permutation.proofs.compress.Goals as goal
 
 pub write-requires : goal.write-requires

@@ -3,7 +3,6 @@ use lib.ListN.{take, drop}
 use Rattle.modular.specs.Goldilocks.{p}
 use Rattle.blocks.specs.Blocks.{flat}
 use Rattle.blocks.proofs.Slices.{width_small, compress_code, put_compress}
-use borrow.Author.Rules.{rules}
 use Rattle.permutation.proofs.compress_at.Goals as goal
 
 pub write-requires : goal.write-requires

@@ -6,7 +6,6 @@ use lib.ListN.{get_or, take, drop}
 use Rattle.modular.specs.Goldilocks.{p}
 use Rattle.poseidon2.specs.Rounds.{permute}
 use Rattle.blocks.proofs.Slices.{added_one, added_two, added_three, twelve, words_at}
-use borrow.Author.Rules.{rules}
 use Rattle.permutation.proofs.compressed.Goals as goal
 
 pub permute4-r-requires : goal.permute4-r-requires

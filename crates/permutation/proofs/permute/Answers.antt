@@ -2,7 +2,6 @@ use mathlib.Core.Path.{ap, ◌∙◌}
 use Rattle.modular.specs.Goldilocks.{p}
 use Rattle.poseidon2.specs.Rounds.{permute}
 use Rattle.blocks.proofs.Slices.{all_of}
-use borrow.Author.Rules.{rules}
 use Rattle.permutation.proofs.permute.Goals as goal
 
 pub returns : goal.returns

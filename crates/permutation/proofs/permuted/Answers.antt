@@ -4,7 +4,6 @@ use native.Mathlib.Omega.{arith}
 use Rattle.poseidon2.specs.Residues.{residues}
 use Rattle.blocks.proofs.Lists.{append_eq}
 use Rattle.blocks.proofs.Slices.{twelve, words_at}
-use borrow.Author.Rules.{rules}
 use Rattle.permutation.proofs.permuted.Goals as goal
 
 pub permute4-r-requires : goal.permute4-r-requires

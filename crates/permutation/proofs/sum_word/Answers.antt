@@ -1,5 +1,4 @@
 use Rattle.blocks.proofs.Slices.{sum-of_words}
-use borrow.Author.Rules.{rules}
 use Rattle.permutation.proofs.sum_word.Goals as goal
 
 pub returns : goal.returns

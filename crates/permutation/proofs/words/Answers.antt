@@ -1,6 +1,5 @@
 use Rattle.poseidon2.specs.Residues.{residues}
 use Rattle.blocks.proofs.Lists.{four_eq}
-use borrow.Author.Rules.{rules}
 use Rattle.permutation.proofs.words.Goals as goal
 
 pub returns : goal.returns

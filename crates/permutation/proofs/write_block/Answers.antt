@@ -1,7 +1,6 @@
 use native.Mathlib.Omega.{arith}
 use lib.ListN.{length-set}
 use Rattle.blocks.proofs.Slices.{block_written}
-use borrow.Author.Rules.{rules}
 use Rattle.permutation.proofs.write_block.Goals as goal
 
 pub bounds-list-at-2 : goal.bounds-list-at-2

@@ -6,7 +6,6 @@ use lib.ListN.{length, get_or}
 use lib.Seq.{paste}
 use Rattle.blocks.specs.Blocks.{four, flat}
 use Rattle.blocks.proofs.Slices.{whole, twelve, width_some, width_more, next_block}
-use borrow.Author.Rules.{rules}
 use Rattle.permutation.proofs.write_state.Goals as goal
 use Rattle.permutation.proofs.write_state.Goals.{Start}
 

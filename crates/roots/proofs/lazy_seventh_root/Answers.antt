@@ -1,5 +1,4 @@
 use mathlib.Core.List.{[], ◌∷◌}
-use borrow.Author.Rules.{rules}
 use Rattle.roots.proofs.Chain.{root_at_once, one_raised, one_stands, one_root}
 use Rattle.roots.proofs.lazy_seventh_root.Goals as goal
 

@@ -1,8 +1,4 @@
-use Prim.Native.Nat.{◌-◌, ◌^◌, ◌≤◌}
 use native.Mathlib.Omega.{arith}
-use borrow.Author.Rules.{rules}
-use Rattle.modular.specs.Congruence.{◌≈⟨◌⟩◌}
-use Rattle.modular.specs.Goldilocks.{p}
 use Rattle.roots.proofs.Chain.{number_none, number_more, number_times}
 use Rattle.roots.proofs.raised.Goals as goal
 

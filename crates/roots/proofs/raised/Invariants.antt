@@ -1,10 +1,7 @@
 -- The loop's invariant: r stands for x squared i times.
 use Prim.Native.Nat.{◌-◌, ◌^◌, ◌≤◌}
-use native.Mathlib.Omega.{arith}
-use borrow.Author.Rules.{rules}
 use Rattle.modular.specs.Congruence.{◌≈⟨◌⟩◌}
 use Rattle.modular.specs.Goldilocks.{p}
-use Rattle.roots.proofs.Chain.{number_none, number_more, number_times}
 use Rattle.roots.proofs.raised.Given as goal
 
 abbrev pub invariant-loop-i : goal.invariant-loop-i

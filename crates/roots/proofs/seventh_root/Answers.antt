@@ -1,5 +1,4 @@
 use mathlib.Core.Path.{◌∙◌}
-use borrow.Author.Rules.{rules}
 use Rattle.roots.proofs.Chain.{word_root}
 use Rattle.roots.proofs.seventh_root.Goals as goal
 

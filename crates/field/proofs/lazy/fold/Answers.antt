@@ -1,4 +1,4 @@
-use Rattle.std.proofs.Common.{◌*◌, arith, rules}
+use Rattle.std.proofs.Common.{◌*◌, arith}
 use Rattle.modular.proofs.Congruence.{trans≈}
 use Rattle.field.proofs.Wrapping.{ε, folded, carried≈, uncarried≈}
 use Rattle.field.proofs.lazy.fold.Goals as goal

@@ -1,4 +1,4 @@
-use Rattle.std.proofs.Common.{◌+◌, ◌*◌, ◌/◌, ◌%◌, rules}
+use Rattle.std.proofs.Common.{◌+◌, ◌*◌, ◌/◌, ◌%◌}
 use Rattle.modular.proofs.Congruence.{trans≈}
 use Rattle.modular.proofs.ProductHalves.{H}
 use Rattle.field.proofs.Wrapping.{ε, joined, half_fits, small_fits, carried≈, uncarried≈}

@@ -1,4 +1,4 @@
-use Rattle.std.proofs.Common.{◌*◌, rules}
+use Rattle.std.proofs.Common.{◌*◌}
 use Rattle.modular.proofs.Congruence.{eq≈, trans≈}
 use Rattle.field.proofs.Wrapping.{two_words}
 use Rattle.field.proofs.lazy.product.Goals as goal

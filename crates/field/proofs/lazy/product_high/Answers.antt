@@ -1,5 +1,4 @@
 use Rattle.modular.proofs.ProductHalves.{high_word}
-use Rattle.std.proofs.Common.{rules}
 use Rattle.field.proofs.lazy.product_high.Goals as goal
 
 pub returns : goal.returns

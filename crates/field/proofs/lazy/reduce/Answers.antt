@@ -1,4 +1,4 @@
-use Rattle.std.proofs.Common.{◌*◌, ◌%◌, ◌^◌, ◌<◌, inl, inr, arith, rules}
+use Rattle.std.proofs.Common.{◌*◌, ◌%◌, ◌^◌, ◌<◌, inl, inr, arith}
 use Rattle.modular.proofs.Congruence.{trans≈}
 use Rattle.modular.proofs.ProductHalves.{H}
 use Rattle.field.proofs.Wrapping.{ε, Rest, reduced, carried≈, uncarried≈}

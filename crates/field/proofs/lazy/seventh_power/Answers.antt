@@ -1,5 +1,4 @@
 use Rattle.modular.proofs.Seventh.{by_products}
-use Rattle.std.proofs.Common.{rules}
 use Rattle.field.proofs.lazy.seventh_power.Goals as goal
 
 pub returns : goal.returns

@@ -1,4 +1,4 @@
-use Rattle.std.proofs.Common.{arith, rules}
+use Rattle.std.proofs.Common.{arith}
 use Rattle.field.proofs.Wrapping.{carried≈, uncarried≈}
 use Rattle.field.proofs.lazy.sum.Goals as goal
 

@@ -1,4 +1,4 @@
-use Rattle.std.proofs.Common.{[], refl, inl, lit<, rules}
+use Rattle.std.proofs.Common.{[], refl, inl, lit<}
 use Rattle.modular.specs.Goldilocks.{p}
 use Rattle.blocks.specs.Blocks.{four}
 use Rattle.blocks.proofs.Halves.{parts_none, parts_more, joins_none, joins_more}

@@ -1,5 +1,4 @@
 use Rattle.blocks.proofs.Lists.{four_residues}
-use Rattle.std.proofs.Common.{rules}
 use Rattle.layers.proofs.external.join_block.Goals as goal
 
 pub returns : goal.returns

@@ -1,4 +1,4 @@
-use Rattle.std.proofs.Common.{[], ◌++◌, get_or, lit<, rules}
+use Rattle.std.proofs.Common.{[], ◌++◌, get_or, lit<}
 use Rattle.modular.specs.Goldilocks.{p}
 use Rattle.blocks.specs.Blocks.{four}
 use Rattle.blocks.proofs.External.{within_three, m4_none, m4_more}

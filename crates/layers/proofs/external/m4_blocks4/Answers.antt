@@ -1,4 +1,4 @@
-use Rattle.std.proofs.Common.{lit<, rules}
+use Rattle.std.proofs.Common.{lit<}
 use Rattle.modular.specs.Goldilocks.{p}
 use Rattle.blocks.proofs.External.{m4_alone}
 use Rattle.layers.proofs.external.m4_blocks4.Goals as goal

@@ -1,5 +1,4 @@
 use Rattle.blocks.proofs.Lists.{raised}
-use Rattle.std.proofs.Common.{rules}
 use Rattle.layers.proofs.full.raise.Goals as goal
 
 pub returns : goal.returns

@@ -1,4 +1,4 @@
-use Rattle.std.proofs.Common.{◌+◌, [], ◌∷◌, arith, rules}
+use Rattle.std.proofs.Common.{◌+◌, [], ◌∷◌, arith}
 use Rattle.blocks.proofs.Lists.{first_word, raised_four}
 use Rattle.layers.proofs.full.raise4.Goals as goal
 

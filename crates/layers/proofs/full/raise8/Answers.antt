@@ -1,4 +1,4 @@
-use Rattle.std.proofs.Common.{◌+◌, [], get_or, arith, lit<, rules}
+use Rattle.std.proofs.Common.{◌+◌, [], get_or, arith, lit<}
 use Rattle.modular.specs.Goldilocks.{p}
 use Rattle.blocks.proofs.Lists.{fewer_words, raised_two}
 use Rattle.layers.proofs.full.raise8.Goals as goal

@@ -1,4 +1,4 @@
-use Rattle.std.proofs.Common.{◌+◌, ◌*◌, rules}
+use Rattle.std.proofs.Common.{◌+◌, ◌*◌}
 use Rattle.blocks.proofs.Carries.{limit, block_sum, block_carries, at_most_one, at_most_two, at_most_three}
 use Rattle.layers.proofs.partial.add_block.Goals as goal
 

@@ -1,4 +1,4 @@
-use Rattle.std.proofs.Common.{arith, rules}
+use Rattle.std.proofs.Common.{arith}
 use Rattle.blocks.proofs.Carries.{carried, carry_small}
 use Rattle.layers.proofs.partial.add_word.Goals as goal
 

@@ -1,4 +1,4 @@
-use Rattle.std.proofs.Common.{ℕ, ◌+◌, ◌%◌, ap, ◌∙◌, arith, rules}
+use Rattle.std.proofs.Common.{ℕ, ◌+◌, ◌%◌, ap, ◌∙◌, arith}
 use Rattle.modular.specs.Goldilocks.{p}
 use Rattle.blocks.proofs.Carries.{carried, carry_small, both_small, two_sums}
 use Rattle.layers.proofs.partial.both.Goals as goal

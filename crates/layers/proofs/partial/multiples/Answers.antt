@@ -1,4 +1,4 @@
-use Rattle.std.proofs.Common.{[], ◌∷◌, rules}
+use Rattle.std.proofs.Common.{[], ◌∷◌}
 use Rattle.blocks.proofs.Round.{multiples_four}
 use Rattle.layers.proofs.partial.multiples.Goals as goal
 

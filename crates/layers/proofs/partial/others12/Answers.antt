@@ -1,4 +1,4 @@
-use Rattle.std.proofs.Common.{ℕ, ◌+◌, ◌*◌, ◌%◌, ap, ◌∙◌, lit≤, rules}
+use Rattle.std.proofs.Common.{ℕ, ◌+◌, ◌*◌, ◌%◌, ap, ◌∙◌, lit≤}
 use Rattle.modular.specs.Goldilocks.{p}
 use Rattle.blocks.specs.Blocks.{four}
 use Rattle.blocks.proofs.Carries.{limit, chains, two_and_block, one_and_block, few, more}
@@ -8,11 +8,10 @@ pub add_block-y-requires : goal.add_block-y-requires
 add_block-y-requires c = few c.add_word-s.result.high 0 1 100 c.add_word-s.ensures.1 (lit≤ tt)
 
 pub both-requires : goal.both-requires
-both-requires c =
-    (
-      few c.add_block-y.result.high 1 4 100 (more c.add_word-s.result.high c.add_block-y.result.high c.add_word-s.ensures.1 c.add_block-y.ensures.1) (lit≤ tt),
-      few c.add_block-z.result.high 0 4 100 c.add_block-z.ensures.1 (lit≤ tt),
-    )
+both-requires c = (
+  few c.add_block-y.result.high 1 4 100 (more c.add_word-s.result.high c.add_block-y.result.high c.add_word-s.ensures.1 c.add_block-y.ensures.1) (lit≤ tt),
+  few c.add_block-z.result.high 0 4 100 c.add_block-z.ensures.1 (lit≤ tt),
+)
 
 pub returns : goal.returns
 returns c =

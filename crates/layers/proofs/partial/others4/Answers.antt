@@ -1,4 +1,4 @@
-use Rattle.std.proofs.Common.{ℕ, ◌+◌, ◌*◌, ◌%◌, [], get_or, ap, ◌∙◌, lit≤, rules}
+use Rattle.std.proofs.Common.{ℕ, ◌+◌, ◌*◌, ◌%◌, [], get_or, ap, ◌∙◌, lit≤}
 use Rattle.modular.specs.Goldilocks.{p}
 use Rattle.blocks.proofs.Carries.{limit, chains, two_alone, one_alone, few}
 use Rattle.layers.proofs.partial.others4.Goals as goal

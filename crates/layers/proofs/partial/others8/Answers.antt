@@ -1,4 +1,4 @@
-use Rattle.std.proofs.Common.{ℕ, ◌+◌, ◌*◌, ◌%◌, [], ap, ◌∙◌, lit≤, rules}
+use Rattle.std.proofs.Common.{ℕ, ◌+◌, ◌*◌, ◌%◌, [], ap, ◌∙◌, lit≤}
 use Rattle.modular.specs.Goldilocks.{p}
 use Rattle.blocks.specs.Blocks.{four}
 use Rattle.blocks.proofs.Carries.{limit, chains, two_alone, one_and_block, few}

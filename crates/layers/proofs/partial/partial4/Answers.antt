@@ -1,4 +1,4 @@
-use Rattle.std.proofs.Common.{[], refl, rules}
+use Rattle.std.proofs.Common.{[], refl}
 use Rattle.poseidon2.specs.Residues.{residues}
 use Rattle.blocks.proofs.Round.{partial_blocks}
 use Rattle.layers.proofs.partial.partial4.Goals as goal

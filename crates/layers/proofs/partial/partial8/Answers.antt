@@ -1,4 +1,4 @@
-use Rattle.std.proofs.Common.{[], get_or, ◌∙◌, rules}
+use Rattle.std.proofs.Common.{[], get_or, ◌∙◌}
 use Rattle.modular.specs.Goldilocks.{p}
 use Rattle.poseidon2.specs.Residues.{residues}
 use Rattle.poseidon2.proofs.Places.{plus_multiples-at}

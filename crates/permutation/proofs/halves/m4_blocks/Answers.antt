@@ -1,5 +1,4 @@
 use mathlib.Core.Path.{◌∙◌}
-use borrow.Author.Rules.{rules}
 use Rattle.permutation.proofs.halves.m4_blocks.Goals as goal
 
 pub returns : goal.returns

@@ -4,7 +4,6 @@ use Rattle.modular.specs.Goldilocks.{p}
 use Rattle.poseidon2.specs.Layers.{m4_blocks}
 use Rattle.blocks.proofs.Slices.{all_of, twelve, width_some, width_more}
 use Rattle.blocks.proofs.Loads.{two_loaded, three_loaded, loaded_within, two_within, three_within}
-use borrow.Author.Rules.{rules}
 use Rattle.permutation.proofs.halves.multiplied.Goals as goal
 
 pub load-a-requires : goal.load-a-requires

@@ -5,7 +5,6 @@ use Rattle.poseidon2.specs.Layers.{sums}
 use Rattle.poseidon2.proofs.SumsFirst.{block_alone}
 use Rattle.blocks.proofs.Slices.{all_of, twelve, width_some, width_more}
 use Rattle.blocks.proofs.Loads.{two_loaded, three_loaded, two_within, three_within}
-use borrow.Author.Rules.{rules}
 use Rattle.permutation.proofs.halves.summed.Goals as goal
 
 pub load-a-requires : goal.load-a-requires

@@ -1,4 +1,3 @@
-use borrow.Author.Rules.{rules}
 use Rattle.permutation.proofs.rounds.first_entry.Goals as goal
 
 pub returns : goal.returns

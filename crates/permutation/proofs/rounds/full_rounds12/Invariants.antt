@@ -1,12 +1,7 @@
-use mathlib.Core.Path.{refl}
-use Prim.Native.Nat.{◌+◌, ◌*◌, ◌-◌}
-use native.Mathlib.Omega.{arith}
-use lib.Dec.{lit<}
-use borrow.Author.Rules.{rules}
+use Prim.Native.Nat.{◌-◌}
 use Rattle.modular.specs.Goldilocks.{p}
 use Rattle.blocks.specs.Blocks.{flat}
-use Rattle.blocks.proofs.Lists.{fewer_words}
-use Rattle.blocks.proofs.Turns.{Turning, full_none, full_turn, full_end}
+use Rattle.blocks.proofs.Turns.{Turning}
 use Rattle.permutation.proofs.rounds.full_rounds12.Given as goal
 
 abbrev pub invariant-loop-i : goal.invariant-loop-i

@@ -1,12 +1,11 @@
 use mathlib.Core.Path.{refl}
-use Prim.Native.Nat.{◌+◌, ◌*◌, ◌-◌}
+use Prim.Native.Nat.{◌+◌, ◌*◌}
 use native.Mathlib.Omega.{arith}
 use lib.Dec.{lit<}
-use borrow.Author.Rules.{rules}
 use Rattle.modular.specs.Goldilocks.{p}
 use Rattle.blocks.specs.Blocks.{four}
 use Rattle.blocks.proofs.Lists.{fewer_words}
-use Rattle.blocks.proofs.Turns.{Turning, full_none, full_turn, full_end}
+use Rattle.blocks.proofs.Turns.{full_none, full_turn, full_end}
 use Rattle.permutation.proofs.rounds.full_rounds4.Goals as goal
 
 pub returns-then-i-n : goal.returns-then-i-n

@@ -1,5 +1,4 @@
 use mathlib.Core.Path.{sym}
-use borrow.Author.Rules.{rules}
 use Rattle.modular.proofs.Fours.{four_at_lem}
 use Rattle.permutation.proofs.rounds.load.Goals as goal
 

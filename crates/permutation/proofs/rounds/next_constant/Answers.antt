@@ -5,7 +5,6 @@ use lib.Dec.{lit<}
 use Rattle.modular.specs.Goldilocks.{p}
 use Rattle.blocks.proofs.Lists.{first_word}
 use Rattle.blocks.proofs.Turns.{constant_at, constant_out}
-use borrow.Author.Rules.{rules}
 use Rattle.permutation.proofs.rounds.next_constant.Goals as goal
 
 pub returns-then-i-n : goal.returns-then-i-n

@@ -1,10 +1,6 @@
-use Prim.Native.Nat.{◌-◌}
 use native.Mathlib.Omega.{arith}
-use lib.ListN.{take}
-use borrow.Author.Rules.{rules}
 use Rattle.modular.specs.Goldilocks.{p}
-use Rattle.blocks.specs.Blocks.{flat}
-use Rattle.blocks.proofs.Turns.{Going, partial_none, partial_turn, partial_end}
+use Rattle.blocks.proofs.Turns.{partial_none, partial_turn, partial_end}
 use Rattle.permutation.proofs.rounds.partial_rounds8.Goals as goal
 
 pub loop-i-preserved : goal.loop-i-preserved

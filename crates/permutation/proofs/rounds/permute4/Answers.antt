@@ -7,7 +7,6 @@ use Rattle.poseidon2.specs.Rounds.{permute}
 use Rattle.blocks.specs.Blocks.{four}
 use Rattle.blocks.proofs.Lists.{fewer_words}
 use Rattle.blocks.proofs.Turns.{permutation_code}
-use borrow.Author.Rules.{rules}
 use Rattle.permutation.proofs.rounds.permute4.Goals as goal
 
 pub full_rounds4-a-requires : goal.full_rounds4-a-requires

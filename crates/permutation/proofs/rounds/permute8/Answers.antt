@@ -8,7 +8,6 @@ use Rattle.poseidon2.specs.Rounds.{permute}
 use Rattle.blocks.specs.Blocks.{flat}
 use Rattle.blocks.proofs.Lists.{fewer_words}
 use Rattle.blocks.proofs.Turns.{permutation_code, two_from}
-use borrow.Author.Rules.{rules}
 use Rattle.permutation.proofs.rounds.permute8.Goals as goal
 
 pub full_rounds8-a-requires : goal.full_rounds8-a-requires

@@ -1,7 +1,6 @@
 use mathlib.Core.Path.{◌≡◌, ap}
 use Prim.Native.Nat.{◌-◌, ◌/◌}
 use native.Mathlib.Omega.{arith}
-use borrow.Author.Rules.{rules}
 use Rattle.repeats.specs.Maps.{Noting}
 use Rattle.repeats.proofs.Notes.{note_before, note_behind, note_again, note_fits, note_new}
 use Rattle.repeats.proofs.maps.note.Goals as goal

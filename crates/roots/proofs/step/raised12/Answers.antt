@@ -1,11 +1,8 @@
-use mathlib.Core.Path.{◌≡◌, refl}
+use mathlib.Core.Path.{refl}
 use mathlib.Core.List.{[], ◌∷◌}
-use Prim.Native.Nat.{◌-◌, ◌^◌, ◌≤◌}
 use native.Mathlib.Omega.{arith}
-use borrow.Author.Rules.{rules}
-use lib.ListN.{length}
 use Rattle.blocks.specs.Blocks.{flat}
-use Rattle.roots.proofs.Chain.{Stand, squared_none, squared_more, squared_times, products_three}
+use Rattle.roots.proofs.Chain.{squared_none, squared_more, squared_times, products_three}
 use Rattle.roots.proofs.step.raised12.Goals as goal
 
 pub loop-i-init : goal.loop-i-init

@@ -1,12 +1,9 @@
 -- The loop's invariant: r stands for x squared i times.
-use mathlib.Core.Path.{◌≡◌, refl}
-use mathlib.Core.List.{[], ◌∷◌}
+use mathlib.Core.Path.{◌≡◌}
 use Prim.Native.Nat.{◌-◌, ◌^◌, ◌≤◌}
-use native.Mathlib.Omega.{arith}
-use borrow.Author.Rules.{rules}
 use lib.ListN.{length}
 use Rattle.blocks.specs.Blocks.{flat}
-use Rattle.roots.proofs.Chain.{Stand, squared_none, squared_more, squared_times, products_three}
+use Rattle.roots.proofs.Chain.{Stand}
 use Rattle.roots.proofs.step.raised12.Given as goal
 
 abbrev pub invariant-loop-i : goal.invariant-loop-i

@@ -1,8 +1,6 @@
-use Prim.Native.Nat.{◌-◌, ◌^◌, ◌≤◌}
 use native.Mathlib.Omega.{arith}
-use borrow.Author.Rules.{rules}
 use Rattle.blocks.specs.Blocks.{four}
-use Rattle.roots.proofs.Chain.{Stand, squared_none, squared_more, squared_times}
+use Rattle.roots.proofs.Chain.{squared_none, squared_more, squared_times}
 use Rattle.roots.proofs.step.raised4.Goals as goal
 
 pub loop-i-init : goal.loop-i-init

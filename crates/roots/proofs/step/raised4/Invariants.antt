@@ -1,9 +1,7 @@
 -- The loop's invariant: r stands for x squared i times.
 use Prim.Native.Nat.{◌-◌, ◌^◌, ◌≤◌}
-use native.Mathlib.Omega.{arith}
-use borrow.Author.Rules.{rules}
 use Rattle.blocks.specs.Blocks.{four}
-use Rattle.roots.proofs.Chain.{Stand, squared_none, squared_more, squared_times}
+use Rattle.roots.proofs.Chain.{Stand}
 use Rattle.roots.proofs.step.raised4.Given as goal
 
 abbrev pub invariant-loop-i : goal.invariant-loop-i

@@ -1,10 +1,8 @@
 use mathlib.Core.Logic.{inl, inr}
-use Prim.Native.Nat.{◌-◌, ◌≤◌}
 use native.Mathlib.Omega.{arith}
-use borrow.Author.Rules.{rules}
 use Rattle.blocks.specs.Blocks.{four}
 use Rattle.roots.proofs.Chain.{are_roots}
-use Rattle.roots.proofs.Steps.{Reached, reached_none, reached_more, reached_root}
+use Rattle.roots.proofs.Steps.{reached_none, reached_more, reached_root}
 use Rattle.roots.proofs.step.seventh_roots4.Goals as goal
 use Rattle.roots.proofs.step.seventh_roots4.Goals.{then-k-eq4, else-k-eq4}
 

@@ -1,11 +1,7 @@
 -- The loop's invariant: what r and ten stand for after k steps of the chain.
-use mathlib.Core.Logic.{⊎_elim, inl, inr}
 use Prim.Native.Nat.{◌-◌, ◌≤◌}
-use native.Mathlib.Omega.{arith}
-use borrow.Author.Rules.{rules}
 use Rattle.blocks.specs.Blocks.{four}
-use Rattle.roots.proofs.Chain.{are_roots}
-use Rattle.roots.proofs.Steps.{Reached, reached_none, reached_more, reached_root}
+use Rattle.roots.proofs.Steps.{Reached}
 use Rattle.roots.proofs.step.seventh_roots4.Given as goal
 
 abbrev pub invariant-loop-k : goal.invariant-loop-k

@@ -1,13 +1,9 @@
-use mathlib.Core.Path.{◌≡◌}
 use mathlib.Core.List.{[], ◌∷◌}
 use mathlib.Core.Logic.{inl, inr}
-use Prim.Native.Nat.{◌-◌, ◌≤◌}
 use native.Mathlib.Omega.{arith}
-use borrow.Author.Rules.{rules}
-use lib.ListN.{length}
 use Rattle.blocks.specs.Blocks.{flat}
 use Rattle.roots.proofs.Chain.{are_roots, residues_two}
-use Rattle.roots.proofs.Steps.{Reached, reached_none, reached_more, reached_root}
+use Rattle.roots.proofs.Steps.{reached_none, reached_more, reached_root}
 use Rattle.roots.proofs.step.seventh_roots8.Goals as goal
 use Rattle.roots.proofs.step.seventh_roots8.Goals.{then-k-eq4, else-k-eq4}
 

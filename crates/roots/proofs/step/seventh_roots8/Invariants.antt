@@ -1,14 +1,9 @@
 -- The loop's invariant: what r and ten stand for after k steps of the chain.
 use mathlib.Core.Path.{◌≡◌}
-use mathlib.Core.List.{[], ◌∷◌}
-use mathlib.Core.Logic.{⊎_elim, inl, inr}
 use Prim.Native.Nat.{◌-◌, ◌≤◌}
-use native.Mathlib.Omega.{arith}
-use borrow.Author.Rules.{rules}
 use lib.ListN.{length}
 use Rattle.blocks.specs.Blocks.{flat}
-use Rattle.roots.proofs.Chain.{are_roots, residues_two}
-use Rattle.roots.proofs.Steps.{Reached, reached_none, reached_more, reached_root}
+use Rattle.roots.proofs.Steps.{Reached}
 use Rattle.roots.proofs.step.seventh_roots8.Given as goal
 
 abbrev pub invariant-loop-k : goal.invariant-loop-k

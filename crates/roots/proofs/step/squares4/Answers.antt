@@ -1,4 +1,3 @@
-use borrow.Author.Rules.{rules}
 use Rattle.roots.proofs.Chain.{products_four}
 use Rattle.roots.proofs.step.squares4.Goals as goal
 

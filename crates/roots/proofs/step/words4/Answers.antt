@@ -1,4 +1,3 @@
-use borrow.Author.Rules.{rules}
 use Rattle.roots.proofs.Chain.{residues_four}
 use Rattle.roots.proofs.step.words4.Goals as goal
 
