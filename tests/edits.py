@@ -18,9 +18,12 @@ FACTS = [re.compile(fact) for fact in (
     r"it is not proved that ",
     r"(as printed|computed as far as they go), the two (types|sides|values|indices) (differ|first differ|are)\b",
     r"expected type `(?!tie\.)",
-    r"`omega`: the (goal|part `[^`]+` of the goal) does not follow from what it read\. All of that holds, and the (goal|part) fails, at ",
+    r"`omega`: the (goal|part `[^`]+` of the goal) does not follow from what it read\. All of that holds, and\b",
     r"give a proof of that as the last argument, `(rw|simp) L t`",
     r"`[^`]*`\s+≟ `[^`]*`:?\s+does not hold\b",
+    # The same of a term so long that rt cuts what it says within it, with a space in it: no name has one.
+    r"`[^`]+ [^`]{30,}$",
+    r"this `\w+` lands at index `[^`]*` \(position \d+\) but the expected type `",
 )]
 
 
