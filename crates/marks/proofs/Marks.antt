@@ -4,16 +4,15 @@ use mathlib.Core.Bool.{Bool, true, false, cond}
 use mathlib.Core.List.{List, []}
 use Prim.Native.Nat.{ℕ, suc, ◌+◌, ◌*◌, ◌-◌, ◌/◌, ◌^◌, ◌≤◌, ◌<◌}
 use native.Mathlib.Nat.{one-le-pow}
-use native.Mathlib.Numerals.{add-one}
 use native.Mathlib.Omega.{arith}
-use lib.ListN.{length, set, length-set}
+use lib.ListN.{length, length-set}
 use lib.Seq.{take_all}
 use Rattle.merkle.specs.Lists.{part, put}
 use Rattle.merkle.specs.Levels.{Shape, Regular, size}
 use Rattle.merkle.specs.Marks.{is_marked, mark_node, mark_above, mark_change, rewrite_marked, sweep}
 use Rattle.merkle.specs.Numbering.{inner, write_node}
 use Rattle.merkle.specs.Openings.{over}
-use Rattle.merkle.specs.Replacement.{Counted, Change}
+use Rattle.merkle.specs.Replacement.{Counted}
 use Rattle.merkle.proofs.Lists.{length-put}
 use Rattle.merkle.proofs.Numbering.{number_inner, row_before, node_inside}
 use Rattle.merkle.proofs.Openings.{over_below}

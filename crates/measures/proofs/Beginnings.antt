@@ -1,5 +1,5 @@
 -- A tally at the beginning, for an accepted set, meets what the passes presume.
-use mathlib.Core.Bool.{true, false, ◌&&◌, false≢true}
+use mathlib.Core.Bool.{false, ◌&&◌, false≢true}
 use Prim.Native.Nat.{ℕ}
 use native.Mathlib.Omega.{arith}
 use lib.Dec.{lit<, eqb, leb}

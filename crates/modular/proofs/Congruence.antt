@@ -1,7 +1,7 @@
 -- Congruence modulo p is an equivalence that sums, products and powers keep.
 use mathlib.Core.Path.{◌≡◌, refl, sym, ap, ap₂, ◌∙◌}
 use Prim.Native.Nat.{ℕ, zero, suc, ◌+◌, ◌*◌, ◌-◌, ◌/◌, ◌%◌, ◌^◌, ◌<◌}
-use native.Mathlib.Nat.{add-mod, add-zero, add-mul-mod_self_left, mod-mod, mod_self, mod-add-div, mod-eq_of_lt, mul-add-mod_self_left, mul_assoc, mul_comm, mul-one, add-mul, pow-zero, pow-suc, zero-mod, zero-mul}
+use native.Mathlib.Nat.{add-mod, add-zero, add-mul-mod_self_left, mod-mod, mod-add-div, mod-eq_of_lt, mul-add-mod_self_left, mul_assoc, mul_comm, mul-one, add-mul, pow-zero, pow-suc}
 use native.Mathlib.Omega.{arith}
 use Rattle.modular.specs.Congruence.{◌≈⟨◌⟩◌}
 

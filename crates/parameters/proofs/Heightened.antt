@@ -1,6 +1,6 @@
 -- A set that is not refused, with another height: refusal 5 alone can apply to the outcome, and its places and kept values are the set's.
 use mathlib.Core.Path.{◌≡◌, ap, ◌∙◌}
-use mathlib.Core.Bool.{true, false, not}
+use mathlib.Core.Bool.{true, false}
 use mathlib.Core.List.{List}
 use Prim.Native.Nat.{ℕ, ◌/◌}
 use native.Mathlib.Omega.{arith}
@@ -8,7 +8,7 @@ use lib.Dec.{eqb}
 use lib.ListN.{length, take}
 use lib.Seq.{length-take-le}
 use borrow.Author.Tests.{eq-eqb}
-use Rattle.refusals.specs.Table.{refusal, first_refusal}
+use Rattle.refusals.specs.Table.{first_refusal}
 use Rattle.refusals.proofs.Table.{refusal_none, first_none}
 use Rattle.refusals.proofs.LengthsAndWords.{both_good}
 use Rattle.poseidon2.specs.Inverse.{inverses}

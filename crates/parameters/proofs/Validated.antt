@@ -1,10 +1,9 @@
 -- The set that validation gives for numbers and lists that it accepts: its used places are those lists, and it is not refused itself.
 use mathlib.Core.Path.{◌≡◌, refl, sym, ap, ◌∙◌}
-use mathlib.Core.Bool.{true, false, not, ◌&&◌}
-use mathlib.Core.List.{List, [], ◌∷◌, ◌++◌}
-use Prim.Native.Nat.{ℕ, ◌≤◌}
-use lib.Dec.{eqb}
-use lib.ListN.{length, take, length-map}
+use mathlib.Core.Bool.{not}
+use mathlib.Core.List.{List, [], ◌∷◌}
+use Prim.Native.Nat.{ℕ}
+use lib.ListN.{length-map}
 use lib.Seq.{take_at}
 use borrow.Author.Tests.{eq-eqb}
 use Rattle.modular.specs.Arithmetic.{inverse}
@@ -15,7 +14,7 @@ use Rattle.poseidon2.specs.Inverse.{inverses, total_inverse}
 use Rattle.kept.specs.Kept.{padded, kept_of, fits}
 use Rattle.kept.proofs.Tested.{own_fit}
 use Rattle.parameters.specs.Refusals.{constant_count, bad_kept, number_refusals, shape_refusals, list_refusals, used_refusals}
-use Rattle.parameters.specs.ParameterSet.{held, no_set, validation, used_diagonal, used_constants, used_inverses, held_refusals, set_refusals}
+use Rattle.parameters.specs.ParameterSet.{held, validation, used_diagonal, used_constants, used_inverses, held_refusals, set_refusals}
 use Rattle.parameters.proofs.Accepted.{Shape, numbers_numbered, lists_numbered, shape_numbered, shape_first, shape_of}
 
 module _ (p t l h rf rp : ℕ) (D C : List ℕ) (none : (validation p t l h rf rp D C).number ≡ 0) where

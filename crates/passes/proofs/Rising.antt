@@ -11,7 +11,6 @@ use lib.ListN.{length}
 use Rattle.refusals.specs.Table.{first_refusal}
 use Rattle.parameters.specs.declared.ParameterSet.{ParameterSet}
 use Rattle.parameters.specs.ParameterSet.{set_refusals}
-use Rattle.merkle.specs.Levels.{count}
 use Rattle.merkle.specs.Marks.{rewrite_marked}
 use Rattle.merkle.specs.Numbering.{rows_before}
 use Rattle.merkle.specs.Replacement.{Counted}

@@ -22,7 +22,7 @@ use Rattle.records.specs.declared.record.Record.{Record}
 use Rattle.records.specs.declared.tally.Tally.{Tally}
 use Rattle.records.specs.Records.{places_of, places_below, used_words}
 use Rattle.push_entries.specs.Pushes.{few_records, pushing, push_refusals, push_reply, pushed}
-use Rattle.records.specs.Tests.{Pass, pass, keepable, Going}
+use Rattle.records.specs.Tests.{pass, keepable, Going}
 use Rattle.pushes.specs.Passes.{Rising, Sweeping, each_of, search_of, levels_of, sweep_of}
 use Rattle.push_entries.specs.Ends.{begin_of, finish_of}
 use Rattle.push_entries.proofs.Passes.{begins, at_once}

@@ -4,7 +4,6 @@ use mathlib.Core.Bool.{true, not}
 use mathlib.Core.List.{List, [], ◌∷◌, ◌++◌}
 use Prim.Native.Nat.{ℕ, ◌*◌, ◌%◌, ◌≤◌, ◌<◌}
 use native.Mathlib.Nat.{mul-mod_left}
-use lib.Dec.{eqb}
 use lib.ListN.{length, get_or}
 use borrow.Author.Tests.{eqb-true, eq-eqb, lt-ltb, not-false}
 use Rattle.modular.specs.Arithmetic.{all_words}
@@ -37,7 +36,7 @@ use Rattle.records.specs.Listed.{whole_records, flat}
 use Rattle.records.proofs.Changes.{changes_places, changes_words, changes_fit, changes_proper, length-places}
 use Rattle.records.proofs.Listed.{listed_six, flat_length, listed_flat}
 use Rattle.push_entries.specs.Pushes.{few_records, push_refusals, pushing, push_reply, pushed}
-use Rattle.push_entries.specs.Statements.{done_singly, EachDone, Once, PushesOnce, SamePush, Read, ListedPushes}
+use Rattle.push_entries.specs.Statements.{done_singly, EachDone, PushesOnce, SamePush, Read, ListedPushes}
 use Rattle.push_entries.proofs.Passes.{push_numbered}
 use Rattle.push_entries.proofs.Listed.{whole_reply, whole_pushed}
 

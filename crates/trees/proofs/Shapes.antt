@@ -6,10 +6,9 @@ use mathlib.Core.List.{List, []}
 use Prim.Native.Nat.{ℕ, zero, suc, ◌+◌, ◌*◌, ◌-◌, ◌/◌, ◌%◌, ◌^◌, ◌≤◌, ◌<◌}
 use native.Mathlib.Nat.{mul-zero, mul-one, mul-le-mul_left, mul-le-mul_right, div-add-mod'}
 use native.Mathlib.Omega.{arith}
-use native.Mathlib.Decide.{dec_lt}
-use lib.ListN.{length, take, get_or, get_or-eq_default}
+use lib.ListN.{take}
 use Rattle.modular.specs.Arithmetic.{all_words}
-use Rattle.modular.proofs.Words.{words_by, words_at}
+use Rattle.modular.proofs.Words.{words_by}
 use Rattle.fields.proofs.Prime.{positive}
 use Rattle.parameters.proofs.AcceptedSets.{words_of}
 use Rattle.poseidon2.specs.Statements.{Width}

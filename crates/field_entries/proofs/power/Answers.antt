@@ -2,7 +2,6 @@ use mathlib.Core.Path.{ap}
 use mathlib.Core.List.{[], ◌∷◌}
 use Prim.Native.Nat.{ℕ}
 use native.Mathlib.Omega.{arith}
-use borrow.Author.Rules.{rules}
 use Rattle.refusals.specs.Table.{done}
 use Rattle.field_entries.specs.Arithmetic.{reply_of, power_reply}
 use Rattle.field_entries.proofs.power.Goals as goal

@@ -2,7 +2,6 @@ use mathlib.Core.Path.{ap}
 use mathlib.Core.List.{[], ◌∷◌}
 use Prim.Native.Nat.{ℕ}
 use native.Mathlib.Omega.{arith}
-use borrow.Author.Rules.{rules}
 use Rattle.refusals.specs.Table.{done}
 use Rattle.field_entries.specs.Arithmetic.{reply_of, product_reply}
 use Rattle.field_entries.proofs.product.Goals as goal

@@ -2,7 +2,6 @@ use mathlib.Core.Path.{sym, ap, ◌∙◌}
 use mathlib.Core.List.{[], ◌∷◌}
 use Prim.Native.Nat.{ℕ}
 use native.Mathlib.Omega.{arith}
-use borrow.Author.Rules.{rules}
 use Rattle.modular.specs.Arithmetic.{add}
 use Rattle.fields.specs.Prime.{prime}
 use Rattle.refusals.specs.Table.{done}

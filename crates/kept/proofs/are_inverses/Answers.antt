@@ -1,9 +1,7 @@
 use mathlib.Core.Path.{refl, sym, ◌∙◌}
-use Prim.Native.Nat.{◌-◌, ◌≤◌}
+use Prim.Native.Nat.{◌-◌}
 use native.Mathlib.Omega.{arith}
-use borrow.Author.Tests.{not-true, not-false}
-use lib.ListN.{length}
-use Rattle.kept.proofs.Tested.{From, one_fails, one_fits, all_fit}
+use Rattle.kept.proofs.Tested.{one_fails, one_fits, all_fit}
 use Rattle.kept.proofs.are_inverses.Goals as goal
 
 pub loop-i-init : goal.loop-i-init

@@ -1,10 +1,7 @@
 -- The loop's invariant: those passed are inverses, so that the rest decides.
-use mathlib.Core.Path.{refl, sym, ◌∙◌}
 use Prim.Native.Nat.{◌-◌, ◌≤◌}
-use native.Mathlib.Omega.{arith}
-use borrow.Author.Tests.{not-true, not-false}
 use lib.ListN.{length}
-use Rattle.kept.proofs.Tested.{From, one_fails, one_fits, all_fit}
+use Rattle.kept.proofs.Tested.{From}
 use Rattle.kept.proofs.are_inverses.Given as goal
 
 abbrev pub invariant-loop-i : goal.invariant-loop-i

@@ -1,13 +1,8 @@
 -- The loop's invariant: the zeros of the places passed are counted.
-use mathlib.Core.Path.{◌≡◌, refl, ap, ◌∙◌}
-use mathlib.Core.Logic.{⊎_elim}
-use Prim.Native.Nat.{◌+◌, ◌-◌, ◌≤◌}
-use native.Mathlib.Omega.{arith}
-use borrow.Author.Rules.{rules}
+use mathlib.Core.Path.{◌≡◌}
+use Prim.Native.Nat.{◌-◌, ◌≤◌}
 use lib.ListN.{length, take}
-use lib.Seq.{take_all}
 use Rattle.poseidon2.specs.Inverse.{zeros}
-use Rattle.poseidon2.proofs.Zeros.{one_zero_more, no_zero_more}
 use Rattle.kept.proofs.count_zeros.Given as goal
 
 abbrev pub invariant-loop-i : goal.invariant-loop-i

@@ -1,8 +1,6 @@
 use mathlib.Core.Path.{◌≡◌, ap, subst}
-use Prim.Native.Nat.{ℕ, ◌+◌, ◌*◌, ◌-◌, ◌≤◌}
+use Prim.Native.Nat.{ℕ, ◌+◌, ◌*◌, ◌-◌}
 use native.Mathlib.Omega.{arith}
-use borrow.Author.Rules.{rules}
-use lib.ListN.{length}
 use Rattle.fields.specs.Prime.{prime}
 use Rattle.fields.proofs.Prime.{prime_field}
 use Rattle.modular.proofs.Congruence.{eq≈, trans≈}

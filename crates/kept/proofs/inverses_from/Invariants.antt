@@ -1,13 +1,9 @@
 -- The loop's invariant: the inverses from i on are made, and `left` is that of the product of the words before.
-use mathlib.Core.Path.{◌≡◌, ap, subst}
-use Prim.Native.Nat.{ℕ, ◌+◌, ◌*◌, ◌-◌, ◌≤◌}
-use native.Mathlib.Omega.{arith}
-use borrow.Author.Rules.{rules}
+use Prim.Native.Nat.{◌-◌, ◌≤◌}
 use lib.ListN.{length}
 use Rattle.fields.specs.Prime.{prime}
 use Rattle.fields.proofs.Prime.{prime_field}
-use Rattle.modular.proofs.Congruence.{eq≈, trans≈}
-use Rattle.kept.proofs.Inverting.{Made, none_made, to_one, one_more_lem, all_made}
+use Rattle.kept.proofs.Inverting.{Made}
 use Rattle.kept.proofs.inverses_from.Given as goal
 
 abbrev pub invariant-loop-i : goal.invariant-loop-i

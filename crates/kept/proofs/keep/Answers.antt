@@ -1,5 +1,4 @@
 use mathlib.Core.Path.{◌≡◌, sym, ◌∙◌}
-use borrow.Author.Rules.{rules}
 use Rattle.poseidon2.specs.Inverse.{zeros}
 use Rattle.kept.proofs.keep.Goals as goal
 

@@ -1,14 +1,8 @@
 -- The loop's invariant: the products of the words passed.
-use mathlib.Core.Path.{◌≡◌, refl, ap, subst}
-use Prim.Native.Nat.{ℕ, ◌+◌, ◌*◌, ◌-◌, ◌≤◌}
-use native.Mathlib.Omega.{arith}
-use borrow.Author.Rules.{rules}
+use Prim.Native.Nat.{◌-◌, ◌≤◌}
 use lib.ListN.{length}
-use Rattle.modular.proofs.Congruence.{eq≈, trans≈}
 use Rattle.fields.specs.Prime.{prime}
-use Rattle.fields.proofs.Prime.{prime_field}
 use Rattle.kept.specs.Products.{ProductsOf}
-use Rattle.kept.proofs.Multiplying.{none_made, made_more}
 use Rattle.kept.proofs.products_of.Given as goal
 
 abbrev pub invariant-loop-i : goal.invariant-loop-i

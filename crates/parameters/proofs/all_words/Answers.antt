@@ -1,11 +1,9 @@
 use mathlib.Core.Path.{refl, sym, ◌∙◌}
 use Prim.Native.Nat.{◌-◌}
 use native.Mathlib.Omega.{arith}
-use borrow.Author.Rules.{rules}
-use lib.ListN.{length}
 use Rattle.modular.specs.Arithmetic.{all_words}
 use Rattle.fields.specs.Prime.{prime}
-use Rattle.modular.proofs.Undecided.{Undecided, decided_rest}
+use Rattle.modular.proofs.Undecided.{decided_rest}
 use Rattle.parameters.proofs.Lists.{four_fail, four_pass}
 use Rattle.parameters.proofs.all_words.Goals as goal
 

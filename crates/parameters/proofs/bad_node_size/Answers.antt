@@ -1,6 +1,5 @@
 use borrow.Author.Tests.{eq-eqb, ne_eqb, lt-ltb, le-ltb}
 use Rattle.parameters.specs.Refusals.{bad_node_size}
-use borrow.Author.Rules.{rules}
 use Rattle.parameters.proofs.bad_node_size.Goals as goal
 
 pub returns-then-node_size-eq0 : goal.returns-then-node_size-eq0

@@ -1,12 +1,10 @@
 use mathlib.Core.Path.{refl, sym, ◌∙◌}
 use Prim.Native.Nat.{◌-◌}
 use native.Mathlib.Omega.{arith}
-use borrow.Author.Rules.{rules}
-use lib.ListN.{length}
 use Rattle.modular.specs.Arithmetic.{all_words}
 use Rattle.fields.specs.Prime.{prime}
 use Rattle.modular.proofs.Words.{none_words, word_first, not_word_first}
-use Rattle.modular.proofs.Undecided.{Undecided, decided, undecided, decided_end}
+use Rattle.modular.proofs.Undecided.{decided, undecided, decided_end}
 use Rattle.parameters.proofs.few_words.Goals as goal
 
 pub loop-i-init : goal.loop-i-init

@@ -1,5 +1,4 @@
 use mathlib.Core.Path.{ap}
-use borrow.Author.Rules.{rules}
 use Rattle.fields.specs.Prime.{prime}
 use Rattle.kept.specs.declared.Kept.{Kept}
 use Rattle.parameters.proofs.Answers.{of_places}

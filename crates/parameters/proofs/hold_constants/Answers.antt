@@ -1,7 +1,6 @@
 use Prim.Native.Nat.{◌-◌}
 use native.Mathlib.Omega.{arith}
-use lib.ListN.{length}
-use Rattle.parameters.proofs.Padding.{Filling, filling_none, filling_more, filling_all}
+use Rattle.parameters.proofs.Padding.{filling_none, filling_more, filling_all}
 use Rattle.parameters.proofs.hold_constants.Goals as goal
 
 pub loop-i-init : goal.loop-i-init

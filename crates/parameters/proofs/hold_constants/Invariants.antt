@@ -1,7 +1,6 @@
 use Prim.Native.Nat.{◌-◌}
-use native.Mathlib.Omega.{arith}
 use lib.ListN.{length}
-use Rattle.parameters.proofs.Padding.{Filling, filling_none, filling_more, filling_all}
+use Rattle.parameters.proofs.Padding.{Filling}
 use Rattle.parameters.proofs.hold_constants.Given as goal
 
 abbrev pub invariant-loop-i : goal.invariant-loop-i

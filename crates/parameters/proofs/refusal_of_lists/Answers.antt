@@ -1,6 +1,5 @@
 use mathlib.Core.Path.{◌≡◌, sym, ap, ◌∙◌}
 use mathlib.Core.List.{[], ◌∷◌}
-use borrow.Author.Rules.{rules}
 use Rattle.fields.specs.Prime.{prime}
 use Rattle.refusals.specs.Table.{refusal, first_refusal}
 use Rattle.refusals.proofs.Table.{front_answers, first_back, refusal_applies, refusal_passes}

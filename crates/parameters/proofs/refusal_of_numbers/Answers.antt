@@ -1,6 +1,5 @@
 use mathlib.Core.Path.{sym, ◌∙◌}
 use native.Mathlib.Omega.{arith}
-use borrow.Author.Rules.{rules}
 use Rattle.refusals.specs.Table.{first_refusal}
 use Rattle.parameters.specs.Refusals.{number_refusals}
 use Rattle.parameters.proofs.Accepted.{node_size_of, arity_bounds}

@@ -1,6 +1,5 @@
 use mathlib.Core.Path.{sym, ◌∙◌}
 use mathlib.Core.List.{[]}
-use borrow.Author.Rules.{rules}
 use Rattle.refusals.specs.Table.{first_refusal}
 use Rattle.refusals.proofs.Table.{refusal_applies, refusal_passes, front_answers, first_back}
 use Rattle.parameters.specs.Refusals.{shape_refusals}

@@ -1,5 +1,4 @@
 use mathlib.Core.Path.{sym, ap, ◌∙◌}
-use borrow.Author.Rules.{rules}
 use Rattle.fields.specs.Prime.{prime}
 use Rattle.refusals.specs.Table.{first_refusal}
 use Rattle.refusals.proofs.Table.{front_answers, first_back}

@@ -3,8 +3,7 @@ use mathlib.Core.List.{List}
 use mathlib.Core.Bool.{true, false}
 use Prim.Native.Nat.{ℕ, ◌<◌, ◌≤◌}
 use native.Mathlib.Omega.{arith}
-use borrow.Author.Rules.{rules}
-use borrow.Author.Tests.{not-true, not-false, lt-ltb, le-ltb}
+use borrow.Author.Tests.{lt-ltb, le-ltb}
 use Rattle.poseidon2.specs.Inverse.{zeros}
 use Rattle.refusals.specs.Table.{first_refusal}
 use Rattle.parameters.specs.Refusals.{several_zeros, word_refusals}

@@ -1,4 +1,3 @@
-use borrow.Author.Rules.{rules}
 use Rattle.parameters.specs.ParameterSet.{turned_down}
 use Rattle.parameters.proofs.turned_down.Goals as goal
 

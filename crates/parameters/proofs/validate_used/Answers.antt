@@ -1,5 +1,4 @@
 use mathlib.Core.Path.{ap, ◌∙◌}
-use borrow.Author.Rules.{rules}
 use Rattle.fields.specs.Prime.{prime}
 use Rattle.parameters.specs.ParameterSet.{validation}
 use Rattle.parameters.proofs.validate_used.Goals as goal

@@ -1,5 +1,4 @@
 use native.Mathlib.Omega.{arith}
-use borrow.Author.Rules.{rules}
 use Rattle.parameters.specs.Refusals.{constant_count}
 use Rattle.parameters.specs.ParameterSet.{used_constants, with_diagonal}
 use Rattle.parameters.proofs.Accepted.{count_fits}

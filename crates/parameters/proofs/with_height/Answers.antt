@@ -1,6 +1,5 @@
 use mathlib.Core.Path.{sym, ◌∙◌}
 use native.Mathlib.Omega.{arith}
-use borrow.Author.Rules.{rules}
 use Rattle.parameters.specs.Refusals.{constant_count}
 use Rattle.parameters.specs.ParameterSet.{with_height}
 use Rattle.parameters.proofs.Accepted.{count_fits}

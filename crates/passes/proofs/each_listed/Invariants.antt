@@ -1,7 +1,6 @@
 -- The loop keeps what that of `each` keeps, over the records of the list.
 use Prim.Native.Nat.{◌-◌}
-use native.Mathlib.Omega.{arith}
-use Rattle.passes.proofs.Turns.{Reached, listed_none, listed_asks, listed_next, listed_all}
+use Rattle.passes.proofs.Turns.{Reached}
 use Rattle.records.specs.Listed.{listed}
 use Rattle.passes.proofs.each_listed.Given as goal
 

@@ -1,9 +1,8 @@
 use Prim.Native.Nat.{◌-◌}
 use native.Mathlib.Omega.{arith}
-use borrow.Author.Rules.{rules}
-use Rattle.records.specs.Listed.{record_at, listed}
+use Rattle.records.specs.Listed.{record_at}
 use Rattle.pushes.specs.Passes.{step_of}
-use Rattle.passes.proofs.Turns.{Reached, listed_none, listed_asks, listed_next, listed_all}
+use Rattle.passes.proofs.Turns.{listed_none, listed_asks, listed_next, listed_all}
 use Rattle.passes.proofs.level_listed.Goals as goal
 
 pub loop-i-init : goal.loop-i-init

@@ -1,10 +1,7 @@
 -- The loop keeps what that of `each` keeps by this phase, over the places of the records.
 use Prim.Native.Nat.{◌-◌}
-use native.Mathlib.Omega.{arith}
-use borrow.Author.Rules.{rules}
-use Rattle.records.specs.Listed.{record_at, listed}
-use Rattle.pushes.specs.Passes.{step_of}
-use Rattle.passes.proofs.Turns.{Reached, listed_none, listed_asks, listed_next, listed_all}
+use Rattle.records.specs.Listed.{listed}
+use Rattle.passes.proofs.Turns.{Reached}
 use Rattle.passes.proofs.level_listed.Given as goal
 
 abbrev pub invariant-loop-i : goal.invariant-loop-i

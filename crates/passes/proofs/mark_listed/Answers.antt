@@ -1,13 +1,11 @@
 use mathlib.Core.Path.{sym, ap, ◌∙◌}
 use Prim.Native.Nat.{◌-◌}
 use native.Mathlib.Omega.{arith}
-use borrow.Author.Rules.{rules}
-use borrow.Author.Tests.{not-true, not-false}
 use Rattle.records.specs.Listed.{listed}
 use Rattle.records.specs.Tests.{Pass, room_of}
 use Rattle.records.proofs.Listed.{six_at}
 use Rattle.pushes.proofs.Records.{rise_unrefused}
-use Rattle.passes.proofs.Turns.{Reached, listed_none, listed_all, marks_none, marks_next}
+use Rattle.passes.proofs.Turns.{listed_none, listed_all, marks_none, marks_next}
 use Rattle.passes.proofs.mark_listed.Goals as goal
 
 pub returns-then-not-may_rise : goal.returns-then-not-may_rise

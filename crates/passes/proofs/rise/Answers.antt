@@ -1,14 +1,6 @@
-use mathlib.Core.Path.{sym, subst}
-use mathlib.Core.List.{List}
-use Prim.Native.Nat.{ℕ, ◌-◌, ◌/◌}
+use Prim.Native.Nat.{◌-◌}
 use native.Mathlib.Omega.{arith}
-use lib.ListN.{length}
-use borrow.Author.Rules.{rules}
-use Rattle.parameters.specs.declared.ParameterSet.{ParameterSet}
-use Rattle.records.specs.declared.tally.Tally.{Tally}
-use Rattle.records.specs.Tests.{Going}
-use Rattle.pushes.specs.Passes.{Rising}
-use Rattle.passes.proofs.Rising.{Reached, levels_begin, level_asks, next_asks, level_next, levels_end}
+use Rattle.passes.proofs.Rising.{levels_begin, level_asks, next_asks, level_next, levels_end}
 use Rattle.passes.proofs.rise.Goals as goal
 
 pub loop-level-init : goal.loop-level-init

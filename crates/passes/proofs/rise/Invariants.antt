@@ -1,15 +1,6 @@
 -- What the loop keeps of the records (Rising).
-use mathlib.Core.Path.{sym, subst}
-use mathlib.Core.List.{List}
-use Prim.Native.Nat.{ℕ, ◌-◌, ◌/◌}
-use native.Mathlib.Omega.{arith}
-use lib.ListN.{length}
-use borrow.Author.Rules.{rules}
-use Rattle.parameters.specs.declared.ParameterSet.{ParameterSet}
-use Rattle.records.specs.declared.tally.Tally.{Tally}
-use Rattle.records.specs.Tests.{Going}
-use Rattle.pushes.specs.Passes.{Rising}
-use Rattle.passes.proofs.Rising.{Reached, levels_begin, level_asks, next_asks, level_next, levels_end}
+use Prim.Native.Nat.{◌-◌}
+use Rattle.passes.proofs.Rising.{Reached}
 use Rattle.passes.proofs.rise.Given as goal
 
 abbrev pub invariant-loop-level : goal.invariant-loop-level

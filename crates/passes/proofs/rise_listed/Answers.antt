@@ -3,14 +3,13 @@ use mathlib.Core.List.{List}
 use Prim.Native.Nat.{ℕ, ◌-◌, ◌/◌}
 use native.Mathlib.Omega.{arith}
 use lib.ListN.{length}
-use borrow.Author.Rules.{rules}
 use Rattle.parameters.specs.declared.ParameterSet.{ParameterSet}
 use Rattle.records.specs.declared.tally.Tally.{Tally}
 use Rattle.records.specs.Listed.{listed}
 use Rattle.records.specs.Tests.{Going}
 use Rattle.pushes.specs.Passes.{Rising}
 use Rattle.records.proofs.Listed.{listed_count}
-use Rattle.passes.proofs.Rising.{Reached, levels_begin, level_asks, next_asks, level_next, levels_end}
+use Rattle.passes.proofs.Rising.{levels_begin, level_asks, next_asks, level_next, levels_end}
 use Rattle.passes.proofs.rise_listed.Goals as goal
 
 -- what it presumes, by the records

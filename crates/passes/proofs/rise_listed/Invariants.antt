@@ -1,17 +1,7 @@
 -- The loop keeps what that of `rise` keeps, over the records of the list.
-use mathlib.Core.Path.{sym, subst}
-use mathlib.Core.List.{List}
-use Prim.Native.Nat.{ℕ, ◌-◌, ◌/◌}
-use native.Mathlib.Omega.{arith}
-use lib.ListN.{length}
-use borrow.Author.Rules.{rules}
-use Rattle.parameters.specs.declared.ParameterSet.{ParameterSet}
-use Rattle.records.specs.declared.tally.Tally.{Tally}
+use Prim.Native.Nat.{◌-◌}
 use Rattle.records.specs.Listed.{listed}
-use Rattle.records.specs.Tests.{Going}
-use Rattle.pushes.specs.Passes.{Rising}
-use Rattle.records.proofs.Listed.{listed_count}
-use Rattle.passes.proofs.Rising.{Reached, levels_begin, level_asks, next_asks, level_next, levels_end}
+use Rattle.passes.proofs.Rising.{Reached}
 use Rattle.passes.proofs.rise_listed.Given as goal
 
 abbrev pub invariant-loop-level : goal.invariant-loop-level

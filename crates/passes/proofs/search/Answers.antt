@@ -1,8 +1,6 @@
-use mathlib.Core.Path.{sym}
-use Prim.Native.Nat.{ℕ, ◌-◌}
+use Prim.Native.Nat.{◌-◌}
 use native.Mathlib.Omega.{arith}
-use borrow.Author.Rules.{rules}
-use Rattle.passes.proofs.Searching.{Reached, search_begins, search_asks, search_next, search_ends}
+use Rattle.passes.proofs.Searching.{search_begins, search_asks, search_next, search_ends}
 use Rattle.passes.proofs.search.Goals as goal
 
 pub loop-phase-init : goal.loop-phase-init

@@ -2,9 +2,7 @@ use mathlib.Core.Path.{sym}
 use Prim.Native.Nat.{ℕ, ◌-◌}
 use native.Mathlib.Omega.{arith}
 use lib.ListN.{length-replicate}
-use borrow.Author.Rules.{rules}
-use Rattle.records.specs.Listed.{listed}
-use Rattle.passes.proofs.Searching.{Reached, search_begins, search_asks, search_next, search_ends}
+use Rattle.passes.proofs.Searching.{search_begins, search_asks, search_next, search_ends}
 use Rattle.passes.proofs.search_listed.Goals as goal
 
 pub loop-phase-init : goal.loop-phase-init

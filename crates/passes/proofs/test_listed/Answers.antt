@@ -1,8 +1,7 @@
 use Prim.Native.Nat.{◌-◌}
 use native.Mathlib.Omega.{arith}
 use Rattle.pushes.specs.Passes.{step_of}
-use Rattle.passes.proofs.Turns.{Reached, listed_none, listed_asks, listed_next, listed_all}
-use Rattle.records.specs.Listed.{listed}
+use Rattle.passes.proofs.Turns.{listed_none, listed_asks, listed_next, listed_all}
 use Rattle.passes.proofs.test_listed.Goals as goal
 
 pub loop-i-init : goal.loop-i-init

@@ -1,5 +1,4 @@
 use mathlib.Core.Path.{ap, ap₂, ◌∙◌}
-use mathlib.Core.List.{List}
 use Prim.Native.Nat.{ℕ}
 use native.Mathlib.Omega.{arith}
 use lib.ListN.{take}
@@ -7,7 +6,6 @@ use lib.Seq.{take-length}
 use Rattle.merkle.specs.Lists.{same}
 use Rattle.merkle.specs.Openings.{accepts}
 use Rattle.trees.proofs.Shapes.{node_small}
-use borrow.Author.Rules.{rules}
 use Rattle.paths.proofs.accepts.Goals as goal
 
 pub first_alike-requires : goal.first_alike-requires

@@ -1,6 +1,6 @@
 use mathlib.Core.Path.{◌≡◌, ap, ◌∙◌}
 use mathlib.Core.List.{[]}
-use Prim.Native.Nat.{◌*◌, ◌-◌, ◌≤◌, ◌<◌}
+use Prim.Native.Nat.{◌*◌, ◌-◌, ◌<◌}
 use native.Mathlib.Nat.{mod-lt, zero-mul}
 use native.Mathlib.Omega.{arith}
 use Rattle.merkle.specs.Openings.{path_node}
@@ -8,7 +8,7 @@ use Rattle.merkle.proofs.Levels.{fits}
 use Rattle.merkle.proofs.Openings.{but_one}
 use Rattle.trees.specs.Shapes.{tree}
 use Rattle.trees.proofs.Shapes.{regular, width_small, node_small}
-use Rattle.paths.proofs.Verdict.{Walked, walked_none, walked_more}
+use Rattle.paths.proofs.Verdict.{walked_none, walked_more}
 use Rattle.paths.proofs.path_node.Goals as goal
 
 pub overflow_sub-beside : goal.overflow_sub-beside

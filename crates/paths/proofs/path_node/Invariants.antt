@@ -1,15 +1,6 @@
 -- The node of level j is in the first places.
-use mathlib.Core.Path.{◌≡◌, ap, ◌∙◌}
-use mathlib.Core.List.{[]}
-use Prim.Native.Nat.{◌*◌, ◌-◌, ◌≤◌, ◌<◌}
-use native.Mathlib.Nat.{mod-lt, zero-mul}
-use native.Mathlib.Omega.{arith}
-use Rattle.merkle.specs.Openings.{path_node}
-use Rattle.merkle.proofs.Levels.{fits}
-use Rattle.merkle.proofs.Openings.{but_one}
-use Rattle.trees.specs.Shapes.{tree}
-use Rattle.trees.proofs.Shapes.{regular, width_small, node_small}
-use Rattle.paths.proofs.Verdict.{Walked, walked_none, walked_more}
+use Prim.Native.Nat.{◌-◌, ◌≤◌}
+use Rattle.paths.proofs.Verdict.{Walked}
 use Rattle.paths.proofs.path_node.Given as goal
 
 abbrev pub invariant-loop-j : goal.invariant-loop-j

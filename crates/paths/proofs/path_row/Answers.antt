@@ -3,7 +3,6 @@ use lib.ListN.{replicate}
 use Rattle.trees.specs.Shapes.{tree}
 use Rattle.trees.proofs.Shapes.{regular, room, width_small, node_small}
 use Rattle.paths.proofs.Verdict.{put_back_copied}
-use borrow.Author.Rules.{rules}
 use Rattle.paths.proofs.path_row.Goals as goal
 
 pub overflow_mul-before : goal.overflow_mul-before

@@ -1,5 +1,4 @@
 use mathlib.Core.Path.{◌∙◌}
-use borrow.Author.Rules.{rules}
 use Rattle.set_arrays.proofs.Begun.{part_over_zeros}
 use Rattle.set_arrays.proofs.constants_at.Goals as goal
 

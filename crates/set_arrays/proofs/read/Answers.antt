@@ -1,4 +1,3 @@
-use borrow.Author.Rules.{rules}
 use Rattle.set_arrays.proofs.Statements.{of_parts}
 use Rattle.set_arrays.proofs.read.Goals as goal
 

@@ -1,5 +1,4 @@
 use mathlib.Core.Path.{refl, ◌∙◌}
-use borrow.Author.Rules.{rules}
 use Rattle.set_arrays.proofs.Begun.{written}
 use Rattle.set_arrays.proofs.Statements.{of_list}
 use Rattle.set_arrays.proofs.write.Goals as goal

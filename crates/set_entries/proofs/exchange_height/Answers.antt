@@ -1,5 +1,4 @@
 use mathlib.Core.Path.{sym, ◌∙◌}
-use borrow.Author.Rules.{rules}
 use Rattle.set_entries.specs.Exchange.{height_exchanged}
 use Rattle.set_entries.proofs.Statements.{set-refused, set-taken}
 use Rattle.set_entries.proofs.exchange_height.Goals as goal

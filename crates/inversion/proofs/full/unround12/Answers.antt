@@ -13,7 +13,7 @@ use Rattle.inversion.proofs.Words.{roots_words, unexternal_state}
 use Rattle.inversion.proofs.Written.{Written, written_none, written_more, written_all, whole_three, less_three, read_words_lem, block_words}
 use Rattle.inversion.proofs.Rounds.{fewer_words}
 use Rattle.inversion.proofs.full.unround12.Goals as goal
-use Rattle.inversion.proofs.full.unround12.Goals.{After-block_at-3, After-put_block, After-put_block-2, After-put_block-3, After-seventh_roots12-r, After-unexternal12-x}
+use Rattle.inversion.proofs.full.unround12.Goals.{After-put_block, After-put_block-2, After-put_block-3, After-seventh_roots12-r, After-unexternal12-x}
 
 pub unexternal12-x-requires : goal.unexternal12-x-requires
 unexternal12-x-requires c =

@@ -13,7 +13,7 @@ use Rattle.inversion.proofs.Words.{roots_words, unexternal_state}
 use Rattle.inversion.proofs.Written.{Written, written_none, written_more, written_all, whole_two, less_two, read_words_lem, block_words}
 use Rattle.inversion.proofs.Rounds.{fewer_words}
 use Rattle.inversion.proofs.full.unround8.Goals as goal
-use Rattle.inversion.proofs.full.unround8.Goals.{After-block_at-2, After-put_block, After-put_block-2, After-seventh_roots8-r, After-unexternal8}
+use Rattle.inversion.proofs.full.unround8.Goals.{After-put_block, After-put_block-2, After-seventh_roots8-r, After-unexternal8}
 
 pub unexternal8-requires : goal.unexternal8-requires
 unexternal8-requires c =

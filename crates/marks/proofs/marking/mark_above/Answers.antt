@@ -3,7 +3,7 @@ use mathlib.Core.List.{[]}
 use Prim.Native.Nat.{◌-◌, ◌<◌}
 use native.Mathlib.Omega.{arith}
 use Rattle.trees.proofs.Ascent.{over_node, over_small}
-use Rattle.marks.proofs.Marks.{Rising, rising_none, rising_ends, rising_more, rising_all}
+use Rattle.marks.proofs.Marks.{rising_none, rising_ends, rising_more, rising_all}
 use Rattle.marks.proofs.marking.mark_above.Goals as goal
 
 pub loop-level-init : goal.loop-level-init

@@ -3,7 +3,6 @@ use mathlib.Core.List.{[]}
 use Prim.Native.Nat.{◌+◌}
 use native.Mathlib.Omega.{arith}
 use lib.ListN.{length}
-use borrow.Author.Rules.{rules}
 use Rattle.merkle.specs.Marks.{mark_node}
 use Rattle.trees.specs.Shapes.{tree}
 use Rattle.trees.proofs.Rows.{number_small}

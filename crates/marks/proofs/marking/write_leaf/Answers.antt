@@ -1,5 +1,4 @@
 use native.Mathlib.Omega.{arith}
-use borrow.Author.Rules.{rules}
 use Rattle.marks.proofs.Marks.{leaf_inside, leaf_length, leaf_marked}
 use Rattle.marks.proofs.marking.write_leaf.Goals as goal
 

@@ -1,6 +1,4 @@
 use mathlib.Core.Path.{sym, ap, ◌∙◌}
-use borrow.Author.Rules.{rules}
-use borrow.Author.Tests.{not-true, not-false}
 use Rattle.merkle.specs.Replacement.{Counted}
 use Rattle.trees.specs.Shapes.{tree, counted}
 use Rattle.marks.proofs.Marks.{passed, rewritten}

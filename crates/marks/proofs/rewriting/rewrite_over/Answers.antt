@@ -1,6 +1,5 @@
 use native.Mathlib.Omega.{arith}
 use Prim.Native.Nat.{◌+◌, ◌/◌}
-use borrow.Author.Rules.{rules}
 use Rattle.marks.proofs.Marks.{some_under, row_inner, row_inside, node_there, row_small}
 use Rattle.marks.proofs.rewriting.rewrite_over.Goals as goal
 

@@ -1,12 +1,12 @@
-use mathlib.Core.Path.{◌≡◌, sym, ap, ◌∙◌}
-use Prim.Native.Nat.{ℕ, ◌-◌, ◌<◌}
+use mathlib.Core.Path.{sym, ap, ◌∙◌}
+use Prim.Native.Nat.{◌-◌, ◌<◌}
 use native.Mathlib.Omega.{arith}
 use Rattle.merkle.specs.Numbering.{inner}
 use Rattle.merkle.specs.Replacement.{Counted}
 use Rattle.trees.specs.Shapes.{tree}
 use Rattle.trees.proofs.Counts.{inner_few}
 use Rattle.trees.proofs.Shapes.{regular}
-use Rattle.marks.proofs.Marks.{Swept, swept_none, swept_more, swept_all, row_inside, node_there}
+use Rattle.marks.proofs.Marks.{swept_none, swept_more, swept_all, row_inside, node_there}
 use Rattle.marks.proofs.rewriting.sweep.Goals as goal
 
 pub inner_count-inner-requires : goal.inner_count-inner-requires

@@ -1,6 +1,5 @@
 use mathlib.Core.Path.{◌≡◌, sym, ap, ◌∙◌}
 use mathlib.Core.Bool.{Bool, ◌&&◌}
-use borrow.Author.Rules.{rules}
 use Rattle.measures.specs.Pushed.{found}
 use Rattle.measures.proofs.pushed.found.Goals as goal
 use Rattle.measures.proofs.pushed.found.Goals.{After-both-2}

@@ -1,8 +1,7 @@
 use mathlib.Core.Path.{sym, ap, ◌∙◌}
 use Prim.Native.Nat.{ℕ}
 use lib.ListN.{length-replicate}
-use borrow.Author.Rules.{rules}
-use Rattle.measures.specs.Pushed.{beginning, found, first_pass}
+use Rattle.measures.specs.Pushed.{found, first_pass}
 use Rattle.measures.proofs.Beginnings.{first_asks}
 use Rattle.measures.proofs.pushed.measured_first_pass.Goals as goal
 

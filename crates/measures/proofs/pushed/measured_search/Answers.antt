@@ -1,5 +1,4 @@
 use mathlib.Core.Path.{ap, ◌∙◌}
-use borrow.Author.Rules.{rules}
 use Rattle.measures.specs.Pushed.{found, searching}
 use Rattle.measures.proofs.Beginnings.{search_asks}
 use Rattle.measures.proofs.pushed.measured_search.Goals as goal

@@ -1,4 +1,3 @@
-use borrow.Author.Rules.{rules}
 use Rattle.opening_tree_c.proofs.Calls.{same_value}
 use Rattle.opening_tree_c.proofs.arithmetic.opening_tree_inverse.Goals as goal
 

@@ -1,4 +1,3 @@
-use borrow.Author.Rules.{rules}
 use Rattle.parameters.specs.declared.ParameterSet.{ParameterSet}
 use Rattle.extraction_entries.specs.Extraction.{extract_reply, pair, extracted_first, extracted_second}
 use Rattle.opening_tree_c.proofs.Calls.{entry_buffers_value}

@@ -1,4 +1,3 @@
-use borrow.Author.Rules.{rules}
 use Rattle.parameters.specs.declared.ParameterSet.{ParameterSet}
 use Rattle.push_entries.specs.Listed.{listed_reply, listed_pushed}
 use Rattle.opening_tree_c.proofs.Calls.{entry_buffer_value}

@@ -1,4 +1,3 @@
-use borrow.Author.Rules.{rules}
 use Rattle.parameters.specs.declared.ParameterSet.{ParameterSet}
 use Rattle.change_entries.specs.Replacement.{replace_reply, replaced}
 use Rattle.opening_tree_c.proofs.Calls.{entry_buffer_value}

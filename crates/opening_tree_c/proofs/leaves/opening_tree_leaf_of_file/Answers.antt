@@ -1,4 +1,3 @@
-use borrow.Author.Rules.{rules}
 use Rattle.parameters.specs.declared.ParameterSet.{ParameterSet}
 use Rattle.file_entries.specs.Files.{file_reply, leaf_written}
 use Rattle.opening_tree_c.proofs.Calls.{entry_buffer}

@@ -1,4 +1,3 @@
-use borrow.Author.Rules.{rules}
 use Rattle.parameters.specs.declared.ParameterSet.{ParameterSet}
 use Rattle.reader_entries.specs.Copies.{copy_reply, copied}
 use Rattle.opening_tree_c.proofs.Calls.{entry_buffer}

@@ -1,5 +1,4 @@
 use mathlib.Core.Path.{ap, ◌∙◌}
-use borrow.Author.Rules.{rules}
 use Rattle.parameters.specs.declared.ParameterSet.{ParameterSet}
 use Rattle.set_entries.specs.Exchange.{diagonal_exchanged}
 use Rattle.opening_tree_c.proofs.Calls.{answer_given}

@@ -1,4 +1,3 @@
-use borrow.Author.Rules.{rules}
 use Rattle.opening_tree_c.proofs.Calls.{answer_given}
 use Rattle.opening_tree_c.proofs.sets.opening_tree_validate.Goals as goal
 

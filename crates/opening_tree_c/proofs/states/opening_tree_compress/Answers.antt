@@ -1,4 +1,3 @@
-use borrow.Author.Rules.{rules}
 use Rattle.parameters.specs.declared.ParameterSet.{ParameterSet}
 use Rattle.state_entries.specs.Permutation.{compress_reply, compressed}
 use Rattle.opening_tree_c.proofs.Calls.{entry_buffer}

@@ -1,4 +1,3 @@
-use borrow.Author.Rules.{rules}
 use Rattle.parameters.specs.declared.ParameterSet.{ParameterSet}
 use Rattle.state_entries.specs.Permutation.{state_reply, unpermuted}
 use Rattle.opening_tree_c.proofs.Calls.{entry_buffer}

@@ -1,4 +1,3 @@
-use borrow.Author.Rules.{rules}
 use Rattle.parameters.specs.declared.ParameterSet.{ParameterSet}
 use Rattle.tree_entries.specs.Trees.{verify_reply}
 use Rattle.opening_tree_c.proofs.Calls.{entry_verdict}

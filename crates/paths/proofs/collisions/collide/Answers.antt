@@ -1,7 +1,6 @@
 use native.Mathlib.Omega.{arith}
 use Rattle.trees.proofs.Shapes.{width_small, node_small}
 use Rattle.paths.proofs.Alike.{rows_differ, rows_alike}
-use borrow.Author.Rules.{rules}
 use Rattle.paths.proofs.collisions.collide.Goals as goal
 
 pub overflow_mul-d : goal.overflow_mul-d

@@ -8,7 +8,6 @@ use Rattle.merkle.proofs.Openings.{but_one}
 use Rattle.trees.specs.Shapes.{tree}
 use Rattle.trees.proofs.Shapes.{regular, width_small}
 use Rattle.paths.proofs.Rows.{power_fits, power_some, row_made, row_copied}
-use borrow.Author.Rules.{rules}
 use Rattle.paths.proofs.collisions.copy_row.Goals as goal
 
 pub leaf_count-requires : goal.leaf_count-requires

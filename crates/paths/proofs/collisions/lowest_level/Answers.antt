@@ -1,6 +1,6 @@
 use mathlib.Core.Path.{◌≡◌}
 use mathlib.Core.List.{[]}
-use Prim.Native.Nat.{◌*◌, ◌-◌, ◌≤◌, ◌<◌}
+use Prim.Native.Nat.{◌*◌, ◌-◌, ◌<◌}
 use native.Mathlib.Nat.{mod-lt, zero-mul}
 use native.Mathlib.Omega.{arith}
 use Rattle.merkle.proofs.Levels.{fits}
@@ -8,7 +8,7 @@ use Rattle.merkle.proofs.Openings.{but_one}
 use Rattle.trees.specs.Shapes.{tree}
 use Rattle.trees.proofs.Shapes.{regular, width_small, node_small}
 use Rattle.paths.proofs.Verdict.{walked_none}
-use Rattle.paths.proofs.Search.{Climbed, climbed_none, found_none, found, climbed_more}
+use Rattle.paths.proofs.Search.{climbed_none, found_none, found, climbed_more}
 use Rattle.paths.proofs.collisions.lowest_level.Goals as goal
 
 pub overflow_sub-beside : goal.overflow_sub-beside

@@ -1,10 +1,7 @@
 -- The words before i are equal.
-use mathlib.Core.Path.{◌≡◌, sym}
+use mathlib.Core.Path.{◌≡◌}
 use Prim.Native.Nat.{ℕ, ◌-◌, ◌≤◌, ◌<◌}
-use native.Mathlib.Omega.{arith}
-use borrow.Author.Count.{below_more}
 use lib.ListN.{get_or}
-use Rattle.paths.proofs.Alike.{alike, unlike}
 use Rattle.paths.proofs.comparison.first_alike.Given as goal
 
 abbrev pub invariant-loop-i : goal.invariant-loop-i

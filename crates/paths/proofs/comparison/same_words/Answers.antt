@@ -1,7 +1,6 @@
 use mathlib.Core.Path.{sym, ◌∙◌}
 use native.Mathlib.Omega.{arith}
 use Rattle.paths.proofs.Alike.{whole_alike, lengths_unlike}
-use borrow.Author.Rules.{rules}
 use Rattle.paths.proofs.comparison.same_words.Goals as goal
 
 pub returns-then-a-b : goal.returns-then-a-b

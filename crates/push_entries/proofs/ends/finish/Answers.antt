@@ -1,6 +1,5 @@
 use Rattle.std.proofs.Common.{◌≡◌, ◌≢◌, true, false}
 use borrow.Author.Tests.{eq-eqb, ne_eqb, not-true, not-false}
-use Rattle.change_entries.specs.declared.changed.Changed.{Changed}
 use Rattle.change_entries.specs.declared.changed.Changed.TheVariants.{Compressions, Refused}
 use Rattle.records.specs.declared.tally.Tally.{Tally}
 use Rattle.push_entries.specs.Ends.{finish_of}

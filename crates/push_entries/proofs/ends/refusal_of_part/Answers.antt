@@ -1,7 +1,6 @@
 use mathlib.Core.Path.{refl, sym, ◌∙◌}
 use mathlib.Core.Bool.{true}
 use mathlib.Core.List.{[]}
-use borrow.Author.Rules.{rules}
 use Rattle.refusals.proofs.Table.{first_front, first_back, refusal_applies}
 use Rattle.parameters.proofs.Accepted.{set-numbered}
 use Rattle.push_entries.proofs.ends.refusal_of_part.Goals as goal

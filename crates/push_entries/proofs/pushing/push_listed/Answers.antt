@@ -1,7 +1,6 @@
 use mathlib.Core.Path.{sym}
 use Prim.Native.Nat.{ℕ}
 use lib.ListN.{length-replicate}
-use borrow.Author.Rules.{rules}
 use Rattle.change_entries.specs.Replacement.{changed_reply}
 use Rattle.push_entries.proofs.Listed.{part_is_refused, early_is_refused, test_asks, search_asks, mark_asks, rise_asks, sweep_asks, whole_is_pushed}
 use Rattle.push_entries.proofs.pushing.push_listed.Goals as goal

@@ -1,6 +1,4 @@
 use mathlib.Core.Path.{sym, ◌∙◌}
-use borrow.Author.Rules.{rules}
-use borrow.Author.Tests.{not-true, not-false}
 use Rattle.pushes.specs.Passes.{by_records}
 use Rattle.pushes.proofs.levels.by_records.Goals as goal
 

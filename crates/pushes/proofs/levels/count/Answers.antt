@@ -1,6 +1,6 @@
 use native.Mathlib.Omega.{arith}
 use Prim.Native.Nat.{◌-◌}
-use Rattle.pushes.proofs.Ranks.{Counting, counting_none, counting_ends, counting_more, counting_all}
+use Rattle.pushes.proofs.Ranks.{counting_none, counting_ends, counting_more, counting_all}
 use Rattle.pushes.proofs.levels.count.Goals as goal
 
 pub loop-level-init : goal.loop-level-init

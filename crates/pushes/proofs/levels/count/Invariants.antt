@@ -1,6 +1,5 @@
-use native.Mathlib.Omega.{arith}
 use Prim.Native.Nat.{◌-◌}
-use Rattle.pushes.proofs.Ranks.{Counting, counting_none, counting_ends, counting_more, counting_all}
+use Rattle.pushes.proofs.Ranks.{Counting}
 use Rattle.pushes.proofs.levels.count.Given as goal
 
 abbrev pub invariant-loop-level : goal.invariant-loop-level

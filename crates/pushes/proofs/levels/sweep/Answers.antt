@@ -1,6 +1,4 @@
 use mathlib.Core.Path.{refl, sym, ◌∙◌}
-use borrow.Author.Rules.{rules}
-use borrow.Author.Tests.{not-true, not-false}
 use Rattle.pushes.specs.Passes.{counting, sweep_of}
 use Rattle.pushes.proofs.Records.{rise_unrefused}
 use Rattle.pushes.proofs.levels.sweep.Goals as goal

@@ -1,6 +1,4 @@
 use mathlib.Core.Path.{refl, sym, ◌∙◌}
-use borrow.Author.Rules.{rules}
-use borrow.Author.Tests.{not-true, not-false}
 use Rattle.records.specs.Tests.{room_of}
 use Rattle.pushes.specs.Passes.{mark_of}
 use Rattle.pushes.proofs.Records.{rise_unrefused}

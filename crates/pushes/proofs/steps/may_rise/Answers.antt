@@ -1,6 +1,5 @@
 use mathlib.Core.Path.{ap, ◌∙◌}
 use mathlib.Core.Bool.{Bool, ◌&&◌}
-use borrow.Author.Rules.{rules}
 use Rattle.pushes.specs.Passes.{may_rise}
 use Rattle.pushes.proofs.steps.may_rise.Goals as goal
 

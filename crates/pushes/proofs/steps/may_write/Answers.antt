@@ -1,6 +1,5 @@
 use mathlib.Core.Path.{ap₂, ◌∙◌}
 use mathlib.Core.Bool.{Bool, ◌&&◌}
-use borrow.Author.Rules.{rules}
 use Rattle.pushes.specs.Passes.{may_write}
 use Rattle.pushes.proofs.steps.may_write.Goals as goal
 

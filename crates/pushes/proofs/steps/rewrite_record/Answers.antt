@@ -1,4 +1,3 @@
-use borrow.Author.Rules.{rules}
 use Rattle.trees.proofs.SetTrees as tree_of
 use Rattle.pushes.proofs.steps.rewrite_record.Goals as goal
 

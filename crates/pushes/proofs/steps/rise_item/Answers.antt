@@ -1,7 +1,5 @@
 use mathlib.Core.Path.{refl, sym, ◌∙◌}
 use native.Mathlib.Omega.{arith}
-use borrow.Author.Rules.{rules}
-use borrow.Author.Tests.{not-true, not-false}
 use Rattle.records.specs.Tests.{room_of}
 use Rattle.pushes.specs.Passes.{counting, rise_of}
 use Rattle.pushes.proofs.Records.{may_unrefused, may_inside}

@@ -1,5 +1,4 @@
 use native.Mathlib.Omega.{arith}
-use borrow.Author.Rules.{rules}
 use borrow.Author.Tests.{eq-eqb, ne_eqb}
 use Rattle.pushes.specs.Passes.{step_of}
 use Rattle.pushes.proofs.Records.{going_first, going_mark, going_level, going_note}

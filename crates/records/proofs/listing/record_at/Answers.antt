@@ -1,4 +1,3 @@
-use borrow.Author.Rules.{rules}
 use Rattle.records.proofs.Listed.{record_at_lem}
 use Rattle.records.proofs.listing.record_at.Goals as goal
 

@@ -1,8 +1,6 @@
 use mathlib.Core.Path.{sym}
 use native.Mathlib.Omega.{arith}
 use lib.Seq.{length-take-le}
-use borrow.Author.Rules.{rules}
-use borrow.Author.Tests.{not-true, not-false}
 use Rattle.records.proofs.Keeping.{kept_none, kept_rising, kept_compared}
 use Rattle.records.proofs.testing.keep_place.Goals as goal
 

@@ -1,8 +1,7 @@
 use mathlib.Core.Path.{refl, sym, ◌∙◌}
 use mathlib.Core.Bool.{not}
 use lib.Dec.{eqb}
-use borrow.Author.Rules.{rules}
-use borrow.Author.Tests.{eqb-true, not-true, not-false}
+use borrow.Author.Tests.{eqb-true}
 use Rattle.modular.proofs.Words.{left_true}
 use Rattle.records.specs.declared.tally.Tally.{Tally}
 use Rattle.records.specs.Tests.{finding, note_of}

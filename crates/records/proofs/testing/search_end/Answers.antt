@@ -1,8 +1,6 @@
 use mathlib.Core.Path.{◌≡◌, sym, ap₂, ◌∙◌}
 use mathlib.Core.Bool.{Bool, ◌&&◌}
 use native.Mathlib.Omega.{arith}
-use borrow.Author.Rules.{rules}
-use borrow.Author.Tests.{not-true, not-false}
 use Rattle.records.specs.Tests.{wanted, search_end}
 use Rattle.records.proofs.testing.search_end.Goals as goal
 use Rattle.records.proofs.testing.search_end.Goals.{After-both-2}

@@ -1,4 +1,3 @@
-use borrow.Author.Rules.{rules}
 use Rattle.parameters.specs.ParameterSet.{used_diagonal, used_constants, used_inverses, set_refusals}
 use Rattle.state_entries.proofs.sets.refusal_of.Goals as goal
 

@@ -1,14 +1,13 @@
 use mathlib.Core.Path.{sym, ap, ◌∙◌}
 use mathlib.Core.List.{[]}
 use lib.ListN.{length}
-use borrow.Author.Rules.{rules}
 use Rattle.fields.proofs.Prime.{prime_field}
 use Rattle.poseidon2.proofs.Rounds.{claims}
 use Rattle.refusals.proofs.Table.{refused_equations, done_equations, left_as}
 use Rattle.state_entries.specs.Permutation.{outcome_reply, compress_refusals, compress_reply, compress_under, compressed}
 use Rattle.state_entries.proofs.AcceptedStates.{AcceptedNode, accepted_compression, compression_numbered}
 use Rattle.state_entries.proofs.states.compress.Goals as goal
-use Rattle.state_entries.proofs.states.compress.Goals.{After-slice_known-2-1, Else-number-ne0}
+use Rattle.state_entries.proofs.states.compress.Goals.{Else-number-ne0}
 
 pub returns-then-number-ne0 : goal.returns-then-number-ne0
 unfolding outcome_reply compress_reply compressed

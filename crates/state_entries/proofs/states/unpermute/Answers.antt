@@ -14,7 +14,7 @@ use Rattle.state_entries.specs.Permutation.{outcome_reply, state_refusals, state
 use Rattle.parameters.proofs.AcceptedSets.{state_of, used_at}
 use Rattle.state_entries.proofs.AcceptedStates.{Accepted, accepted, state_numbered}
 use Rattle.state_entries.proofs.states.unpermute.Goals as goal
-use Rattle.state_entries.proofs.states.unpermute.Goals.{After-slice_known-2-1, After-struct_known-1, Else-number-ne0}
+use Rattle.state_entries.proofs.states.unpermute.Goals.{After-struct_known-1, Else-number-ne0}
 
 pub returns-then-number-ne0 : goal.returns-then-number-ne0
 unfolding outcome_reply state_reply unpermuted

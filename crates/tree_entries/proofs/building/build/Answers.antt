@@ -1,6 +1,5 @@
 use mathlib.Core.Path.{sym, ◌∙◌}
 use mathlib.Core.List.{[]}
-use borrow.Author.Rules.{rules}
 use Rattle.refusals.proofs.Table.{refused_equations, done_equations}
 use Rattle.state_entries.specs.Permutation.{outcome_reply}
 use Rattle.tree_entries.specs.Trees.{build_refusals, build_reply, built}

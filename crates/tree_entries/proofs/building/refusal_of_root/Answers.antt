@@ -1,6 +1,5 @@
 use mathlib.Core.Path.{sym, ap, ◌∙◌}
-use borrow.Author.Rules.{rules}
-use borrow.Author.Tests.{eq-eqb, ne_eqb, not-true, not-false}
+use borrow.Author.Tests.{eq-eqb, ne_eqb}
 use Rattle.refusals.proofs.Table.{front_answers}
 use Rattle.parameters.proofs.Accepted.{set-numbered}
 use Prim.Native.Nat.{ℕ, ◌-◌}

@@ -1,6 +1,5 @@
 use mathlib.Core.Path.{sym, ap, ◌∙◌}
 use mathlib.Core.List.{[]}
-use borrow.Author.Rules.{rules}
 use Rattle.refusals.proofs.Table.{refused_equations, done_equations}
 use lib.ListN.{length}
 use Rattle.state_entries.specs.Permutation.{outcome_reply}

@@ -1,6 +1,5 @@
 use mathlib.Core.Path.{◌≡◌, sym, ◌∙◌}
 use mathlib.Core.List.{[]}
-use borrow.Author.Rules.{rules}
 use Rattle.refusals.specs.Table.{first_refusal}
 use Rattle.refusals.proofs.Table.{refused_equations, done_equations}
 use Rattle.merkle.specs.Openings.{opening}

@@ -3,8 +3,7 @@ use mathlib.Core.Bool.{false, not, ◌&&◌}
 use mathlib.Core.List.{[], ◌∷◌}
 use Prim.Native.Nat.{◌<◌}
 use lib.ListN.{length}
-use borrow.Author.Rules.{rules}
-use borrow.Author.Tests.{eq-eqb, ne_eqb, lt-ltb, le-ltb, not-true, not-false}
+use borrow.Author.Tests.{eq-eqb, ne_eqb, lt-ltb, le-ltb}
 use Rattle.refusals.specs.Table.{not_words, first_refusal}
 use Rattle.refusals.proofs.Table.{front_answers}
 use Rattle.parameters.specs.ParameterSet.{prime_of, set_refusals}

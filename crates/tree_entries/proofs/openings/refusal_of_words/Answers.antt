@@ -1,7 +1,5 @@
 use mathlib.Core.Path.{sym, ◌∙◌}
 use mathlib.Core.List.{◌++◌}
-use borrow.Author.Rules.{rules}
-use borrow.Author.Tests.{not-true, not-false}
 use Rattle.modular.proofs.Words.{words_append}
 use Rattle.refusals.proofs.LengthsPlacesAndWords.{twelve, no_twelve, left_not_words, right_not_words}
 use Rattle.tree_entries.proofs.openings.refusal_of_words.Goals as goal

@@ -1,7 +1,6 @@
 use mathlib.Core.Path.{◌≡◌, sym, ap, ◌∙◌}
 use mathlib.Core.Bool.{Bool, cond}
 use mathlib.Core.List.{[], ◌∷◌}
-use borrow.Author.Rules.{rules}
 use Rattle.refusals.specs.Table.{refused, done}
 use Rattle.refusals.proofs.Table.{reply_refused, reply_done}
 use Rattle.tree_entries.specs.Trees.{verdict_reply, verify_refusals, verify_reply}

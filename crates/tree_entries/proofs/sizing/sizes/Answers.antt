@@ -1,7 +1,6 @@
 use mathlib.Core.Path.{◌≡◌, sym, ◌∙◌}
 use mathlib.Core.List.{[], ◌∷◌}
 use Prim.Native.Nat.{ℕ}
-use borrow.Author.Rules.{rules}
 use Rattle.refusals.specs.Table.{done}
 use Rattle.refusals.proofs.Table.{refused_equations, done_equations}
 use Rattle.parameters.specs.ParameterSet.{set_refusals}

@@ -4,7 +4,7 @@ use native.Mathlib.Omega.{arith}
 use Rattle.merkle.specs.Numbering.{inner}
 use Rattle.trees.proofs.Shapes.{countable}
 use Rattle.trees.specs.Shapes.{tree}
-use Rattle.trees.proofs.Filling.{Built, built_none, next_node, next_row, built_more, built_all, leaves_fit}
+use Rattle.trees.proofs.Filling.{built_none, next_node, next_row, built_more, built_all, leaves_fit}
 use Rattle.trees.proofs.building.build.Goals as goal
 
 pub leaf_count-count-requires : goal.leaf_count-count-requires

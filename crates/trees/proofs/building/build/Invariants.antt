@@ -1,11 +1,7 @@
 -- The first n nodes above the leaves are written.
-use mathlib.Core.Path.{sym, ◌∙◌}
-use Prim.Native.Nat.{◌-◌, ◌<◌}
-use native.Mathlib.Omega.{arith}
+use Prim.Native.Nat.{◌-◌}
 use Rattle.merkle.specs.Numbering.{inner}
-use Rattle.trees.proofs.Shapes.{countable}
-use Rattle.trees.specs.Shapes.{tree}
-use Rattle.trees.proofs.Filling.{Built, built_none, next_node, next_row, built_more, built_all, leaves_fit}
+use Rattle.trees.proofs.Filling.{Built}
 use Rattle.trees.proofs.building.build.Given as goal
 
 abbrev pub invariant-loop-n : goal.invariant-loop-n

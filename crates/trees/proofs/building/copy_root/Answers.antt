@@ -1,5 +1,4 @@
 use Rattle.trees.proofs.Filling.{root_copied}
-use borrow.Author.Rules.{rules}
 use Rattle.trees.proofs.building.copy_root.Goals as goal
 
 pub returns : goal.returns

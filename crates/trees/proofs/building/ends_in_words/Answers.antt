@@ -4,10 +4,6 @@ use native.Mathlib.Omega.{arith}
 use lib.ListN.{length, drop, length-drop}
 use lib.Seq.{take_all}
 use Rattle.modular.specs.Arithmetic.{all_words}
-use borrow.Author.Rules.{rules}
-use Rattle.trees.proofs.building.ends_in_words.Reads as reads
-use Rattle.trees.proofs.building.ends_in_words.Lts as lts
-use Rattle.parameters.proofs.all_words.Reads as all-words-reads
 use Rattle.trees.proofs.building.ends_in_words.Goals as goal
 
 pub returns : goal.returns

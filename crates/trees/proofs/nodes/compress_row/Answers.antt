@@ -5,7 +5,6 @@ use lib.Seq.{length-take-le}
 use Rattle.trees.specs.Shapes.{tree}
 use Rattle.trees.proofs.Shapes.{width_small, node_small, node_in_width, regular}
 use Rattle.trees.proofs.Rows.{node_of_six}
-use borrow.Author.Rules.{rules}
 use Rattle.trees.proofs.nodes.compress_row.Goals as goal
 
 pub overflow_mul-d : goal.overflow_mul-d

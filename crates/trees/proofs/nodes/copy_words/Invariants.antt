@@ -1,12 +1,8 @@
 -- The words before i are copied.
-use mathlib.Core.Path.{◌≡◌, refl, sym, ap, ap₂, ◌∙◌}
-use mathlib.Core.List.{List}
-use Prim.Native.Nat.{ℕ, ◌+◌, ◌-◌, ◌≤◌}
-use native.Mathlib.Numerals.{add-one}
-use native.Mathlib.Omega.{arith}
-use lib.ListN.{length, set, drop, get_or, length-set, length-drop}
-use lib.Seq.{paste, paste-zero, paste-suc, get_or-drop}
-use Rattle.trees.proofs.Lists.{copied}
+use mathlib.Core.Path.{◌≡◌}
+use Prim.Native.Nat.{◌-◌, ◌≤◌}
+use lib.ListN.{length, drop}
+use lib.Seq.{paste}
 use Rattle.trees.proofs.nodes.copy_words.Given as goal
 
 abbrev pub invariant-loop-i : goal.invariant-loop-i

@@ -4,7 +4,6 @@ use lib.ListN.{take, replicate}
 use Rattle.merkle.specs.Lists.{part}
 use Rattle.merkle.proofs.Lists.{length_part}
 use Rattle.trees.proofs.Lists.{head_put}
-use borrow.Author.Rules.{rules}
 use Rattle.trees.proofs.nodes.node_at.Goals as goal
 
 pub returns : goal.returns

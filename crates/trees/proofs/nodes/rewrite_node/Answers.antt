@@ -5,7 +5,6 @@ use lib.ListN.{length}
 use Rattle.trees.specs.Shapes.{tree, counted}
 use Rattle.trees.proofs.Shapes.{node_in_width, regular}
 use Rattle.trees.proofs.Rows.{number_small, written, count_more}
-use borrow.Author.Rules.{rules}
 use Rattle.trees.proofs.nodes.rewrite_node.Goals as goal
 
 pub overflow_add-leaves : goal.overflow_add-leaves

@@ -3,7 +3,6 @@ use native.Mathlib.Omega.{arith}
 use Rattle.trees.specs.Shapes.{tree}
 use Rattle.trees.proofs.Shapes.{regular, room}
 use Rattle.trees.proofs.Siblings.{siblings_copied}
-use borrow.Author.Rules.{rules}
 use Rattle.trees.proofs.openings.copy_siblings.Goals as goal
 
 pub overflow_mul-before : goal.overflow_mul-before

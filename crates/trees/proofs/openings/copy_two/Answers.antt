@@ -2,7 +2,6 @@ use mathlib.Core.Path.{ap, ◌∙◌}
 use mathlib.Core.List.{List}
 use Prim.Native.Nat.{ℕ, ◌+◌}
 use Rattle.merkle.specs.Lists.{part, put}
-use borrow.Author.Rules.{rules}
 use Rattle.trees.proofs.openings.copy_two.Goals as goal
 
 pub returns : goal.returns

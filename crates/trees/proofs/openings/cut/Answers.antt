@@ -1,5 +1,4 @@
 use native.Mathlib.Nat.{add-sub_cancel_left}
-use borrow.Author.Rules.{rules}
 use Rattle.trees.proofs.openings.cut.Goals as goal
 
 pub returns : goal.returns

@@ -3,14 +3,14 @@ use mathlib.Core.List.{[]}
 use Prim.Native.Nat.{ℕ, ◌*◌, ◌-◌, ◌^◌, ◌<◌}
 use native.Mathlib.Nat.{zero-mul}
 use native.Mathlib.Omega.{arith}
-use lib.ListN.{length, take}
+use lib.ListN.{take}
 use lib.Seq.{take_all}
 use Rattle.merkle.specs.Numbering.{gather}
 use Rattle.merkle.proofs.Numbering.{opening_gather}
 use Rattle.merkle.proofs.Openings.{but_one}
 use Rattle.trees.specs.Shapes.{tree}
 use Rattle.trees.proofs.Shapes.{countable, regular, width_small}
-use Rattle.trees.proofs.Ascent.{Over, over_leaf, own_place, over_row, over_small, over_next}
+use Rattle.trees.proofs.Ascent.{over_leaf, own_place, over_row, over_small, over_next}
 use Rattle.trees.proofs.Siblings.{gather_none, level_inside, level_length, level_copied, opening_any}
 use Rattle.trees.proofs.openings.open.Goals as goal
 

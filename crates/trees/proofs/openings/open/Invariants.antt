@@ -1,18 +1,11 @@
 -- The siblings of the levels below are copied.
-use mathlib.Core.Path.{◌≡◌, sym, ap, ◌∙◌}
+use mathlib.Core.Path.{◌≡◌}
 use mathlib.Core.List.{[]}
-use Prim.Native.Nat.{ℕ, ◌*◌, ◌-◌, ◌^◌, ◌<◌}
-use native.Mathlib.Nat.{zero-mul}
-use native.Mathlib.Omega.{arith}
+use Prim.Native.Nat.{◌*◌, ◌-◌, ◌^◌}
 use lib.ListN.{length, take}
-use lib.Seq.{take_all}
 use Rattle.merkle.specs.Numbering.{gather}
-use Rattle.merkle.proofs.Numbering.{opening_gather}
-use Rattle.merkle.proofs.Openings.{but_one}
 use Rattle.trees.specs.Shapes.{tree}
-use Rattle.trees.proofs.Shapes.{countable, regular, width_small}
-use Rattle.trees.proofs.Ascent.{Over, over_leaf, own_place, over_row, over_small, over_next}
-use Rattle.trees.proofs.Siblings.{gather_none, level_inside, level_length, level_copied, opening_any}
+use Rattle.trees.proofs.Ascent.{Over}
 use Rattle.trees.proofs.openings.open.Given as goal
 
 abbrev pub invariant-loop-level : goal.invariant-loop-level

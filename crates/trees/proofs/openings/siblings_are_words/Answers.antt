@@ -1,11 +1,9 @@
 use mathlib.Core.Path.{sym, ◌∙◌}
 use Prim.Native.Nat.{◌+◌, ◌*◌, ◌-◌}
 use native.Mathlib.Omega.{arith}
-use borrow.Author.Tests.{not-true, not-false}
 use Rattle.trees.specs.Shapes.{tree}
 use Rattle.trees.proofs.Shapes.{regular, room}
 use Rattle.trees.proofs.Siblings.{siblings_fail, siblings_rest}
-use borrow.Author.Rules.{rules}
 use Rattle.trees.proofs.openings.siblings_are_words.Goals as goal
 
 pub overflow_mul-own : goal.overflow_mul-own

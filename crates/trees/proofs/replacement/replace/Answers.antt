@@ -1,5 +1,4 @@
 use native.Mathlib.Omega.{arith}
-use borrow.Author.Rules.{rules}
 use Rattle.merkle.specs.Replacement.{replace}
 use Rattle.trees.proofs.replacement.replace.Goals as goal
 

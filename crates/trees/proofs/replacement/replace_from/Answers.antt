@@ -4,7 +4,7 @@ use native.Mathlib.Omega.{arith}
 use Rattle.merkle.specs.Replacement.{Counted}
 use Rattle.trees.proofs.Shapes.{countable}
 use Rattle.trees.proofs.Ascent.{over_row, over_node, over_small}
-use Rattle.trees.proofs.Climb.{Climbed, leaf_inside, climbed_none, climbed_all, climbed_more}
+use Rattle.trees.proofs.Climb.{leaf_inside, climbed_none, climbed_all, climbed_more}
 use Rattle.trees.proofs.replacement.replace_from.Goals as goal
 
 pub leaf_count-leaves-requires : goal.leaf_count-leaves-requires

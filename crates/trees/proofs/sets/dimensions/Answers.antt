@@ -1,5 +1,4 @@
 use native.Mathlib.Omega.{arith}
-use borrow.Author.Rules.{rules}
 use Rattle.trees.proofs.SetTrees as tree_of
 use Rattle.trees.proofs.sets.dimensions.Goals as goal
 

@@ -1,7 +1,6 @@
 use mathlib.Core.Path.{ap}
 use Prim.Native.Nat.{ℕ, ◌*◌}
 use native.Mathlib.Omega.{arith}
-use borrow.Author.Rules.{rules}
 use Rattle.trees.proofs.SetTrees as tree_of
 use Rattle.trees.proofs.sets.leaf_words.Goals as goal
 

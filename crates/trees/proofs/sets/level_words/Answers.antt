@@ -1,7 +1,6 @@
 use mathlib.Core.Path.{◌≡◌, ap, ◌∙◌}
 use Prim.Native.Nat.{ℕ, ◌*◌, ◌-◌}
 use native.Mathlib.Omega.{arith}
-use borrow.Author.Rules.{rules}
 use Rattle.merkle.specs.Lists.{part}
 use Rattle.merkle.specs.Openings.{siblings_at, sibling_size}
 use Rattle.trees.specs.declared.Dimensions.{Dimensions}

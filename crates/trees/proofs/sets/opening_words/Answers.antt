@@ -1,7 +1,6 @@
 use mathlib.Core.Path.{ap, ◌∙◌}
 use Prim.Native.Nat.{◌*◌, ◌-◌}
 use native.Mathlib.Omega.{arith}
-use borrow.Author.Rules.{rules}
 use Rattle.trees.specs.declared.Dimensions.{Dimensions}
 use Rattle.trees.proofs.SetTrees as tree_of
 use Rattle.trees.proofs.sets.opening_words.Goals as goal

@@ -1,6 +1,5 @@
 use mathlib.Core.Path.{ap, ◌∙◌}
 use Prim.Native.Nat.{◌^◌}
-use borrow.Author.Rules.{rules}
 use Rattle.trees.specs.declared.Dimensions.{Dimensions}
 use Rattle.trees.proofs.SetTrees as tree_of
 use Rattle.trees.proofs.sets.places.Goals as goal

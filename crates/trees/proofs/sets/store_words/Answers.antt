@@ -1,5 +1,4 @@
 use mathlib.Core.Path.{ap, ◌∙◌}
-use borrow.Author.Rules.{rules}
 use Rattle.merkle.specs.Levels.{size}
 use Rattle.trees.specs.Shapes.{tree}
 use Rattle.trees.specs.declared.Dimensions.{Dimensions}

@@ -1,9 +1,6 @@
 -- After i turns the count is k^i.
-use mathlib.Core.Path.{◌≡◌, sym, ap, ◌∙◌}
-use Prim.Native.Nat.{ℕ, ◌*◌, ◌^◌, ◌-◌, ◌≤◌}
-use native.Mathlib.Nat.{pow-zero}
-use native.Mathlib.Omega.{arith}
-use Rattle.trees.proofs.Counts.{power_next, power_fits}
+use mathlib.Core.Path.{◌≡◌}
+use Prim.Native.Nat.{◌^◌, ◌-◌, ◌≤◌}
 use Rattle.trees.proofs.sizes.leaf_count.Given as goal
 
 abbrev pub invariant-loop-i : goal.invariant-loop-i

@@ -1,6 +1,5 @@
 use native.Mathlib.Nat.{mul-le-mul}
 use native.Mathlib.Omega.{arith}
-use borrow.Author.Rules.{rules}
 use Rattle.trees.proofs.Counts.{part_few}
 use Rattle.trees.proofs.sizes.opening_size.Goals as goal
 

@@ -1,5 +1,4 @@
 use native.Mathlib.Omega.{arith}
-use borrow.Author.Rules.{rules}
 use Rattle.trees.proofs.Counts.{part_few}
 use Rattle.trees.proofs.sizes.part_size.Goals as goal
 
