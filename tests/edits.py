@@ -12,10 +12,10 @@ EDIT = re.compile(r"file: ((?:src|specs|proofs)/.+)\n((?:old: .+\nnew: .*\n)+)")
 # What rt says of an edit that the prover refuses: where, and what follows the name of the declaration there. rt says it otherwise of a text that
 # cannot be read, of a proof that names what is gone, and of a limit that was met.
 REFUSED = re.compile(r"^rt: must-fail (\w+)/(\S+)\.edit: refused, as it must be: (?:note: )?(\S+?):\d+:\d+: (?:error: )?(?:`[^`]*`: )?(.*)", re.M)
-# What is said of a fact that does not hold: what code owes and is not proved; terms that should be the same and are not; a case in which a goal
+# What is said of a fact that does not hold: what code owes and fails at some numbers; terms that should be the same and are not; a case in which a goal
 # is false; what rewriting leaves and is no equation of a term with itself. Anything else is said of a step that no longer fits.
 FACTS = [re.compile(fact) for fact in (
-    r"it is not proved that ",
+    r"it is not proved that .*; the facts known there allow ",
     r"(as printed|computed as far as they go), the two (types|sides|values|indices) (differ|first differ|are)\b",
     r"expected type `(?!tie\.)",
     r"`omega`: the (goal|part `[^`]+` of the goal) does not follow from what it read\. All of that holds, and\b",
@@ -25,6 +25,16 @@ FACTS = [re.compile(fact) for fact in (
     r"`[^`]+ [^`]{30,}$",
     r"this `\w+` lands at index `[^`]*` \(position \d+\) but the expected type `",
 )]
+
+# These leave a goal open that has no answer in a proof file, so that none can have been lost, and at which rt finds no numbers that make it
+# false, as it is about lists. Each is false all the same. Of any other edit an open goal alone shows nothing: its answer may have another name.
+OPEN = {
+    ("program", "root_text-constants-from-start"),
+    ("reader_entries", "reader-refused"),
+    ("streams", "read_full-beyond-the-end"),
+    ("streams", "read_full-failure-is-end"),
+    ("streams", "read_full-stops-early"),
+}
 
 
 def fault(path, said):
@@ -44,6 +54,8 @@ def fault(path, said):
         text = text.replace(old, new)
     if (crate.name, label) not in said:
         return "rt does not say that it was refused, and why"
+    if (crate.name, label) in OPEN and said[crate.name, label].startswith("it is not proved that what the function ensures holds when it returns "):
+        return None
     if not any(fact.match(said[crate.name, label]) for fact in FACTS):
         return f"what is said first is no fact: {said[crate.name, label]}"
     return None
