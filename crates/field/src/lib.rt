@@ -57,10 +57,9 @@ pub fn power(base: u64, exponent: u64) -> u64
     if exponent == 0 {
         return 1;
     }
-    let mut i = 63 - u64::leading_zeros(exponent);
+    let highest = 63 - exponent.leading_zeros();
     let mut r = base;
-    while i > 0 {
-        i -= 1;
+    for i in (0..highest).rev() {
         r = lazy::product(r, r);
         if (exponent >> i) % 2 == 1 {
             r = lazy::product(r, base);
