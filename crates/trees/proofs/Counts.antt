@@ -17,12 +17,9 @@ power_fits k i h one b f = omega (arith, power_next k i, pow-le-pow_right one {i
 pub power_some : (k h : ℕ) → 1 ≤ k → 1 ≤ k ^ h
 power_some k h one = omega (arith, native.Mathlib.Nat.pow-zero k, pow-le-pow_right one {i = 0} {j = h} (omega arith))
 
--- a part lies within h of its size, and a level's part of an opening is small
+-- a part lies within h of its size
 pub within : (n : ℕ) {j h : ℕ} → j < h → j * n + n ≤ h * n
 within n {j} {h} l = omega (arith, suc-mul j n, mul-le-mul_right n l)
-
-pub part_few : (k l : ℕ) → k ≤ 12 → l ≤ 12 → (k - 1) * l ≤ 132
-part_few k l a b = mul-le-mul {n₁ = k - 1} {n₂ = 11} (omega arith) b
 
 module _ (S : Shape) (G : Regular S) where
   open S use {arity as k, node_size as l}

@@ -2,24 +2,13 @@
 use mathlib.Core.Path.{◌≡◌, refl, sym, ap, ap₂, ◌∙◌}
 use mathlib.Core.Bool.{Bool, true, false, ◌&&◌}
 use mathlib.Core.List.{List, [], ◌∷◌, ◌++◌, append_assoc}
-use Prim.Native.Nat.{ℕ, ◌+◌, ◌≤◌, ◌<◌}
+use Prim.Native.Nat.{ℕ, ◌+◌, ◌≤◌}
 use native.Mathlib.Omega.{arith}
-use lib.ListN.{length, take, drop, get_or, length-append, length-drop}
-use lib.Seq.{paste, take-take, take-add, length-take-le, drop-drop, ext_get_or, get_or-take}
+use lib.ListN.{length, take, drop, length-append, length-drop}
+use lib.Seq.{take-take, take-add, drop-drop}
 use Rattle.modular.specs.Arithmetic.{is_word, all_words}
-use Rattle.merkle.specs.Lists.{part, put, same}
+use Rattle.merkle.specs.Lists.{part, put}
 use Rattle.merkle.proofs.Lists.{put_paste, length-put, length_part, take_put, part_put, drop-take, eq_same, ne_same}
-
--- what a loop leaves that copies n words
-pub copied : (xs : List ℕ) (to : ℕ) (source : List ℕ) (from n : ℕ) → from + n ≤ length source → paste xs to (drop from source) n ≡ put xs to (part from n source)
-copied xs to source from n b =
-    let v : List ℕ = part from n source in
-    let e : length v ≡ n = length_part from n source b in
-    let s : n ≤ n = omega arith in
-    sym
-    (put_paste xs to v
-    ∙ ap (paste xs to v) e
-    ∙ ap (λ (z : List ℕ). take to xs ++ z ++ drop (to + n) xs) (take-take n n (drop from source) s))
 
 pub put_length : (xs : List ℕ) (to : ℕ) (source : List ℕ) (from n : ℕ) → from + n ≤ length source → to + n ≤ length xs → length (put xs to (part from n source)) ≡ length xs
 put_length xs to source from n b c = length-put xs to (part from n source) (omega (arith, length_part from n source b))
@@ -63,20 +52,6 @@ words_both p (x ∷ xs) ys = ap (λ (b : Bool). is_word p x && b) (words_both p 
     and_assoc : (a b c : Bool) → (a && (b && c)) ≡ ((a && b) && c)
     and_assoc true b c = refl
     and_assoc false b c = refl
-
--- a list compared with the first words of another
-module _ (words list : List ℕ) (b : length list ≤ length words) where
-  first_same : ((i : ℕ) → i < length list → get_or words i 0 ≡ get_or list i 0) → take (length list) words ≡ list
-  first_same e =
-      let l : length (take (length list) words) ≡ length list = length-take-le (length list) words b in
-      ext_get_or 0 (take (length list) words) list l (λ i c. get_or-take (length list) words i 0 (omega arith) ∙ e i (omega arith))
-
-  pub all_same : (n : ℕ) → n ≡ length list → ((i : ℕ) → i < n → get_or words i 0 ≡ get_or list i 0) → same (take (length list) words) list ≡ true
-  all_same n z e = eq_same (take (length list) words) list (first_same (λ i c. e i (omega arith)))
-
-  pub one_differs : (i : ℕ) → i < length list → (get_or words i 0 ≡ get_or list i 0 → ⊥) → same (take (length list) words) list ≡ false
-  one_differs i c n =
-      ne_same (take (length list) words) list (λ e. n (sym (get_or-take (length list) words i 0 c) ∙ ap (λ (z : List ℕ). get_or z i 0) e))
 
 -- what is put at the head
 pub head_put : (xs v : List ℕ) (n : ℕ) → length v ≡ n → n ≤ length xs → take n (put xs 0 v) ≡ v

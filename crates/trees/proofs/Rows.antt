@@ -1,32 +1,21 @@
 -- A row compressed, in an array or in a store.
 use mathlib.Core.Path.{◌≡◌, refl, sym, ap, ◌∙◌}
-use mathlib.Core.List.{List, [], ◌∷◌}
+use mathlib.Core.List.{List}
 use Prim.Native.Nat.{ℕ, ◌+◌, ◌*◌, ◌≤◌, ◌<◌}
 use native.Mathlib.Nat.{le-mul_of_pos_right}
 use native.Mathlib.Omega.{arith}
-use lib.ListN.{length, take, get_or}
+use lib.ListN.{length, take}
 use lib.Seq.{paste, take-take, take-paste, take_all}
 use Rattle.merkle.specs.Levels.{Shape, Regular, row}
 use Rattle.merkle.specs.Numbering.{write_node}
 use Rattle.merkle.specs.Replacement.{Counted}
 use Rattle.merkle.proofs.Lists.{put_paste, length-put, length_part}
 
--- the first six of a list
-six : (xs : List ℕ) → 6 ≤ length xs → get_or xs 0 0 ∷ get_or xs 1 0 ∷ get_or xs 2 0 ∷ get_or xs 3 0 ∷ get_or xs 4 0 ∷ get_or xs 5 0 ∷ [] ≡ take 6 xs
-six [] h = absurd (omega arith)
-six (a ∷ []) h = absurd (omega arith)
-six (a ∷ b ∷ []) h = absurd (omega arith)
-six (a ∷ b ∷ c ∷ []) h = absurd (omega arith)
-six (a ∷ b ∷ c ∷ d ∷ []) h = absurd (omega arith)
-six (a ∷ b ∷ c ∷ d ∷ e ∷ []) h = absurd (omega arith)
-six (a ∷ b ∷ c ∷ d ∷ e ∷ f ∷ xs) h = refl
-
 -- a node written at the head of a list, and read back among the first six
-pub node_of_six : (l : ℕ) (old xs v : List ℕ) → l ≤ 6 → 6 ≤ length xs → length v ≡ l → xs ≡ paste old 0 v l
-    → take l (get_or xs 0 0 ∷ get_or xs 1 0 ∷ get_or xs 2 0 ∷ get_or xs 3 0 ∷ get_or xs 4 0 ∷ get_or xs 5 0 ∷ []) ≡ v
-node_of_six l old xs v b s e h =
+pub node_of_six : (l : ℕ) (old xs six v : List ℕ) → l ≤ 6 → six ≡ take 6 xs → length v ≡ l → xs ≡ paste old 0 v l → take l six ≡ v
+node_of_six l old xs six v b s e h =
     let z : l ≡ 0 + l = omega arith in
-    ap (take l) (six xs s)
+    ap (take l) s
     ∙ take-take l 6 xs b
     ∙ ap (take l) h
     ∙ ap (λ (n : ℕ). take n (paste old 0 v l)) z

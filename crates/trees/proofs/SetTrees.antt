@@ -6,7 +6,6 @@ use native.Mathlib.Nat.{div-add-mod', div-le_self, mul-le-mul, mul-le-mul_right,
 use native.Mathlib.Omega.{arith}
 use lib.ListN.{length, length-drop}
 use Rattle.refusals.specs.Table.{first_refusal}
-use Rattle.fields.proofs.Prime.{positive}
 use Rattle.parameters.specs.declared.ParameterSet.{ParameterSet}
 use Rattle.parameters.specs.ParameterSet.{set_refusals}
 use Rattle.parameters.proofs.Accepted.{Numbers}
@@ -78,6 +77,9 @@ module _ (s : ParameterSet) (none : first_refusal (set_refusals s) ≡ 0) where
       let one : 1 ≤ (s.width / s.node_size) ^ s.height + inner (tree_of_set s) s.height =
       omega (arith, one-le-pow s.height (s.width / s.node_size) arity_some) in
       rw ((numbered (tree_of_set s) shape_regular).words s.height) (omega (arith, mul-le-mul_right s.node_size one))
+
+-- what the numbers of an accepted set are
+pub ruleset accepted = (valid_numbers, arity_some, arity_few, size_positive, size_fits, width_fits, leaf_words_fit)
 
 -- merkle's laws of the set's tree
 pub laws : (s : ParameterSet) → first_refusal (set_refusals s) ≡ 0 → TreeLaws (tree_of_set s)

@@ -3,7 +3,7 @@ use mathlib.Core.Path.{◌≡◌, sym, ap₂, subst}
 use mathlib.Core.Logic.{inl, inr}
 use mathlib.Core.Bool.{true}
 use mathlib.Core.List.{List, []}
-use Prim.Native.Nat.{ℕ, zero, suc, ◌+◌, ◌*◌, ◌-◌, ◌/◌, ◌%◌, ◌^◌, ◌≤◌, ◌<◌}
+use Prim.Native.Nat.{ℕ, zero, suc, ◌+◌, ◌*◌, ◌-◌, ◌/◌, ◌%◌, ◌≤◌, ◌<◌}
 use native.Mathlib.Nat.{mul-zero, mul-one, mul-le-mul_left, mul-le-mul_right, div-add-mod'}
 use native.Mathlib.Omega.{arith}
 use lib.ListN.{take}
@@ -19,7 +19,7 @@ use Rattle.merkle.proofs.Openings.{but_one}
 use Rattle.parameters.specs.Refusals.{constant_count}
 use Rattle.parameters.proofs.Accepted.{Numbers, width_fits}
 use Rattle.trees.specs.declared.Dimensions.{Dimensions}
-use Rattle.trees.specs.Shapes.{prime_of_tree, shape_of, shape, dimensions, tree, ValidNumbers, ValidSet}
+use Rattle.trees.specs.Shapes.{prime_of_tree, shape_of, dimensions, tree, ValidNumbers, ValidSet}
 
 width_some : {t : ℕ} → Width t → 4 ≤ t
 width_some (inl e) = omega (arith, e)
@@ -67,14 +67,6 @@ whole_width t l e = omega (arith, div-add-mod' t l)
 pub at_width : (t l : ℕ) → Width t → t % l ≡ 0 → Width (t / l * l)
 at_width t l w e = subst Width (sym (whole_width t l e)) w
 
--- so it is regular and keeps words
-module _ {q : ℕ} (pos : 0 < q) (t l half rp : ℕ) (D C : List ℕ) (w : Width t) (e : t % l ≡ 0) (s : 2 ≤ t / l) where
-  pub set-regular : Regular (shape q t l half rp D C)
-  set-regular = shape_regular pos (t / l) l half rp D C (at_width t l w e) s
-
-  pub set_words : KeepsWords q (shape q t l half rp D C)
-  set_words = shape_words pos (t / l) l half rp D C (at_width t l w e) s
-
 -- what validation gives is what the functions ask for
 module _ (t l h rf rp : ℕ) (N : Numbers t l h rf rp) where
   pub valid_numbers : ValidNumbers (dimensions t l h rf rp)
@@ -121,13 +113,6 @@ module _ {d : Dimensions} (v : ValidNumbers d) where
 
   pub arity_small : d.arity ≤ 12
   arity_small = few_nodes d.arity d.node_size v.width
-
-  pub node_in_width : d.node_size ≤ d.arity * d.node_size
-  node_in_width = one_node d.arity d.node_size v.width v.several
-
-  -- what `leaf_count` asks
-  pub countable : (1 ≤ d.arity) × (d.arity ^ d.height ≤ 4294967296)
-  countable = (omega (arith, v.several), v.few)
 
 -- a row with its node c: the siblings before it, it, and the siblings behind it
 pub record Room (d : Dimensions) (c : ℕ) : Type 0 where

@@ -22,10 +22,8 @@ pub fn build(
     let count = sizes::leaf_count(d.arity, d.height);
     let inner = sizes::inner_count(d);
     nodes::copy_words(leaves, 0, leaves.len(), store, 0);
-    let mut n: usize = 0;
-    while n < inner {
+    for n in 0..inner {
         nodes::rewrite_node(d, diagonal, constants, store, count, n, 0);
-        n += 1;
     }
 }
 

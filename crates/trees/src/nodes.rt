@@ -13,11 +13,7 @@ pub fn copy_words(source: &[u64], from: usize, count: usize, target: &mut [u64],
     requires { (from + count ≤ length source.now) × (to + count ≤ length target.old) }
     ensures { target.new ≡ put target.old to (part from count source.now) }
 {
-    let mut i: usize = 0;
-    while i < count {
-        target[to + i] = source[from + i];
-        i += 1;
-    }
+    target[to..to + count].copy_from_slice(&source[from..from + count]);
 }
 
 // Node i of a list of nodes, in the first places of six.
@@ -52,7 +48,10 @@ pub fn compress_row(
         0,
         0,
     );
-    [x[0], x[1], x[2], x[3], x[4], x[5]]
+    let Some(node) = x.first_chunk::<6>() else {
+        unreachable!();
+    };
+    *node
 }
 
 // Row n of the store is compressed and written as the node of number `leaves` + n: the count goes up by one.

@@ -50,13 +50,11 @@ pub fn open(d: Dimensions, store: &[u64], place: usize, siblings: &mut [u64])
     let height = d.height;
     let leaves = sizes::leaf_count(arity, height);
     let beside = (arity - 1) * d.node_size;
-    let mut number: usize = place;
-    let mut level: usize = 0;
-    while level < height {
+    let mut number = place;
+    for level in 0..height {
         let n = number / arity;
         copy_siblings(d, store, n, number % arity, siblings, level * beside);
         number = leaves + n;
-        level += 1;
     }
 }
 
@@ -71,10 +69,7 @@ fn siblings_are_words(d: Dimensions, store: &[u64], n: usize, c: usize) -> bool
     let own = start + c * node_size;
     let behind = own + node_size;
     let end = start + width;
-    if !parameters::few_words(&store[start..own]) {
-        return false;
-    }
-    parameters::few_words(&store[behind..end])
+    parameters::few_words(&store[start..own]) && parameters::few_words(&store[behind..end])
 }
 
 // Whether the opening is words: it reads what `open` copies.
@@ -86,14 +81,12 @@ pub fn opening_is_words(d: Dimensions, store: &[u64], place: usize) -> bool
     let height = d.height;
     let leaves = sizes::leaf_count(arity, height);
     let mut number = place;
-    let mut level: usize = 0;
-    while level < height {
+    for _ in 0..height {
         let n = number / arity;
         if !siblings_are_words(d, store, n, number % arity) {
             return false;
         }
         number = leaves + n;
-        level += 1;
     }
     true
 }

@@ -28,12 +28,10 @@ pub fn replace_from(
     nodes::copy_words(leaf, 0, node_size, store, place * node_size);
     let mut made = count;
     let mut number = place;
-    let mut level: usize = 0;
-    while level < height {
+    for _ in 0..height {
         let n = number / arity;
         made = nodes::rewrite_node(d, diagonal, constants, store, leaves, n, made);
         number = leaves + n;
-        level += 1;
     }
     made
 }

@@ -1,4 +1,6 @@
 // The tree of a set that is accepted: its numbers as the tree's work uses them, its sizes, and a level's part of its openings.
+#![tactic(auto, using(crate::proofs::SetTrees::accepted))]
+
 ghost use Rattle.std.specs.Prelude.{◌≡◌, ◌<◌, length};
 ghost use Rattle.refusals.specs.Table.{first_refusal};
 ghost use Rattle.parameters.specs.ParameterSet.{set_refusals};
@@ -67,7 +69,5 @@ pub fn level_words<'a>(set: ParameterSet, siblings: &'a [u64], level: u64) -> &'
     requires { (first_refusal (set_refusals set) ≡ 0) × (length siblings.now ≡ opening_words set) × (level < set.height) }
     ensures { result.now ≡ siblings_at (tree_of_set set) siblings.now level }
 {
-    let d = dimensions(set);
-    let size = sizes::part_size(d.arity, d.node_size);
-    openings::cut(siblings, size, level as usize)
+    openings::cut(siblings, part_words(set), level as usize)
 }

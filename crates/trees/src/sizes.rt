@@ -11,11 +11,9 @@ pub fn leaf_count(arity: usize, height: usize) -> usize
     requires { (1 ≤ arity) × (arity ^ height ≤ 4294967296) }
     ensures { result ≡ arity ^ height }
 {
-    let mut leaves: usize = 1;
-    let mut i: usize = 0;
-    while i < height {
+    let mut leaves = 1;
+    for _ in 0..height {
         leaves *= arity;
-        i += 1;
     }
     leaves
 }
@@ -50,5 +48,5 @@ pub fn opening_size(arity: usize, node_size: usize, height: usize) -> usize
     requires { (1 ≤ arity) × (arity ≤ 12) × (node_size ≤ 12) × (height ≤ 32) }
     ensures { result ≡ height * ((arity - 1) * node_size) }
 {
-    height * ((arity - 1) * node_size)
+    height * part_size(arity, node_size)
 }

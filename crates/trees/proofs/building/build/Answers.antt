@@ -1,17 +1,9 @@
-use mathlib.Core.Path.{sym, ◌∙◌}
-use Prim.Native.Nat.{◌-◌, ◌<◌}
+use Prim.Native.Nat.{◌<◌}
 use native.Mathlib.Omega.{arith}
 use Rattle.merkle.specs.Numbering.{inner}
-use Rattle.trees.proofs.Shapes.{countable}
 use Rattle.trees.specs.Shapes.{tree}
 use Rattle.trees.proofs.Filling.{built_none, next_node, next_row, built_more, built_all, leaves_fit}
 use Rattle.trees.proofs.building.build.Goals as goal
-
-pub leaf_count-count-requires : goal.leaf_count-count-requires
-leaf_count-count-requires c = countable c.requires.0.numbers
-
-pub inner_count-inner-requires : goal.inner_count-inner-requires
-inner_count-inner-requires c = c.requires.0.numbers
 
 pub copy_words-requires : goal.copy_words-requires
 copy_words-requires c =
@@ -29,20 +21,11 @@ rewrite_node-requires c =
     let b : c.loop-n.n < inner (tree a.d a.diagonal.now a.constants.now) a.d.height = rw (c.inner_count-inner.ensures a.diagonal.now a.constants.now) at c.loop-n-test.true in
     (c.loop-n.invariant.set, next_row c.loop-n.invariant c.leaf_count-count.result c.leaf_count-count.ensures b, next_node c.loop-n.invariant c.leaf_count-count.result c.leaf_count-count.ensures b, omega arith)
 
-pub overflow_add-n : goal.overflow_add-n
-overflow_add-n c = omega arith
-
-pub loop-n-smaller : goal.loop-n-smaller
-loop-n-smaller c = omega arith
-
 pub loop-n-preserved : goal.loop-n-preserved
 loop-n-preserved c =
     let a = c.args in
     let b : c.loop-n.n < inner (tree a.d a.diagonal.now a.constants.now) a.d.height = rw (c.inner_count-inner.ensures a.diagonal.now a.constants.now) at c.loop-n-test.true in
     built_more c.loop-n.invariant c.leaf_count-count.result c.leaf_count-count.ensures b _ c.rewrite_node.ensures.0
-
-pub shape_of-store : goal.shape_of-store
-shape_of-store c = c.loop-n.invariant.filled.whole ∙ sym c.requires.2
 
 pub returns : goal.returns
 returns c =

@@ -7,22 +7,11 @@ use lib.ListN.{take}
 use lib.Seq.{take_all}
 use Rattle.merkle.specs.Numbering.{gather}
 use Rattle.merkle.proofs.Numbering.{opening_gather}
-use Rattle.merkle.proofs.Openings.{but_one}
 use Rattle.trees.specs.Shapes.{tree}
-use Rattle.trees.proofs.Shapes.{countable, regular, width_small}
-use Rattle.trees.proofs.Ascent.{over_leaf, own_place, over_row, over_small, over_next}
+use Rattle.trees.proofs.Shapes.{regular}
+use Rattle.trees.proofs.Ascent.{over_leaf, own_place, over_row, over_next}
 use Rattle.trees.proofs.Siblings.{gather_none, level_inside, level_length, level_copied, opening_any}
 use Rattle.trees.proofs.openings.open.Goals as goal
-
-pub leaf_count-leaves-requires : goal.leaf_count-leaves-requires
-leaf_count-leaves-requires c = countable c.requires.0
-
-pub overflow_sub-beside : goal.overflow_sub-beside
-overflow_sub-beside c = omega (arith, c.requires.0.several)
-
-pub overflow_mul-beside : goal.overflow_mul-beside
-overflow_mul-beside c =
-    omega (arith, but_one (tree c.args.d [] []) (regular c.requires.0 [] []), width_small c.requires.0)
 
 pub loop-level-init : goal.loop-level-init
 loop-level-init c =
@@ -33,32 +22,10 @@ loop-level-init c =
       ap (λ (n : ℕ). take n a.siblings.now) (zero-mul m) ∙ sym (gather_none (tree a.d [] []) (a.d.arity ^ a.d.height) a.place a.store.now),
     )
 
-pub nonzero_div-n : goal.nonzero_div-n
-nonzero_div-n c = omega (arith, c.loop-level.invariant.0.numbers.several)
-
-pub nonzero_rem-number : goal.nonzero_rem-number
-nonzero_rem-number c = omega (arith, c.loop-level.invariant.0.numbers.several)
-
-pub overflow_mul-level : goal.overflow_mul-level
-overflow_mul-level c =
-    let b : c.loop-level.level < c.args.d.height = c.loop-level-test.true in
-    omega (arith, level_inside c.args.store.now c.loop-level.invariant.0 b c.loop-level.siblings c.loop-level.invariant.1)
-
 pub copy_siblings-requires : goal.copy_siblings-requires
 copy_siblings-requires c =
     let b : c.loop-level.level < c.args.d.height = c.loop-level-test.true in
     (c.loop-level.invariant.0.numbers, over_row c.loop-level.invariant.0 b, own_place c.loop-level.invariant.0, level_inside c.args.store.now c.loop-level.invariant.0 b c.loop-level.siblings c.loop-level.invariant.1)
-
-pub overflow_add-number : goal.overflow_add-number
-overflow_add-number c =
-    let b : c.loop-level.level < c.args.d.height = c.loop-level-test.true in
-    omega (arith, over_small c.loop-level.invariant.0 b c.leaf_count-leaves.result c.leaf_count-leaves.ensures)
-
-pub overflow_add-level : goal.overflow_add-level
-overflow_add-level c = omega arith
-
-pub loop-level-smaller : goal.loop-level-smaller
-loop-level-smaller c = omega arith
 
 pub loop-level-preserved : goal.loop-level-preserved
 loop-level-preserved c =
@@ -69,9 +36,6 @@ loop-level-preserved c =
       level_length a.store.now c.loop-level.invariant.0 b c.loop-level.siblings c.loop-level.invariant.1 _ f ∙ c.loop-level.invariant.1,
       level_copied a.store.now c.loop-level.invariant.0 b c.loop-level.siblings c.loop-level.invariant.1 _ f c.loop-level.invariant.2,
     )
-
-pub shape_of-siblings : goal.shape_of-siblings
-shape_of-siblings c = c.loop-level.invariant.1 ∙ sym c.requires.3
 
 pub returns : goal.returns
 returns c =

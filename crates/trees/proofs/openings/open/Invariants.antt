@@ -12,6 +12,3 @@ abbrev pub invariant-loop-level : goal.invariant-loop-level
 invariant-loop-level l = (Over l.d [] [] (length l.store) l.place l.level l.number)
     × (length l.siblings ≡ l.d.height * ((l.d.arity - 1) * l.d.node_size))
     × (take (l.level * ((l.d.arity - 1) * l.d.node_size)) l.siblings ≡ gather (tree l.d [] []) (l.d.arity ^ l.d.height) l.place l.store l.level)
-
-abbrev pub decreases-loop-level : goal.decreases-loop-level
-decreases-loop-level l = l.d.height - l.level

@@ -2,7 +2,7 @@
 use mathlib.Core.Path.{◌≡◌}
 use mathlib.Core.Bool.{true}
 use mathlib.Core.List.{[]}
-use Prim.Native.Nat.{◌-◌, ◌^◌}
+use Prim.Native.Nat.{◌^◌}
 use lib.ListN.{length}
 use Rattle.modular.specs.Arithmetic.{all_words}
 use Rattle.merkle.specs.Numbering.{gather}
@@ -10,8 +10,5 @@ use Rattle.trees.specs.Shapes.{prime_of_tree, tree}
 use Rattle.trees.proofs.Ascent.{Over}
 use Rattle.trees.proofs.openings.opening_is_words.Given as goal
 
-abbrev pub invariant-loop-level : goal.invariant-loop-level
-invariant-loop-level l = (Over l.d [] [] (length l.store) l.place l.level l.number) × (all_words (prime_of_tree l.d) (gather (tree l.d [] []) (l.d.arity ^ l.d.height) l.place l.store l.level) ≡ true)
-
-abbrev pub decreases-loop-level : goal.decreases-loop-level
-decreases-loop-level l = l.d.height - l.level
+abbrev pub invariant-loop : goal.invariant-loop
+invariant-loop l = (Over l.d [] [] (length l.store) l.place l.counter l.number) × (all_words (prime_of_tree l.d) (gather (tree l.d [] []) (l.d.arity ^ l.d.height) l.place l.store l.counter) ≡ true)

@@ -2,23 +2,14 @@ use mathlib.Core.Path.{ap, ◌∙◌}
 use Prim.Native.Nat.{ℕ, ◌-◌, ◌/◌}
 use native.Mathlib.Omega.{arith}
 use Rattle.trees.specs.Shapes.{tree}
-use Rattle.trees.proofs.Shapes.{countable, regular}
+use Rattle.trees.proofs.Shapes.{regular}
 use Rattle.trees.proofs.Counts.{power_some, inner_quotient}
 use Rattle.trees.proofs.sizes.inner_count.Goals as goal
-
-pub leaf_count-requires : goal.leaf_count-requires
-leaf_count-requires c = countable c.requires
 
 pub overflow_sub-result : goal.overflow_sub-result
 overflow_sub-result c =
     let a = c.args in
     omega (arith, c.leaf_count.ensures, power_some a.d.arity a.d.height (omega (arith, c.requires.several)))
-
-pub overflow_sub-result-2 : goal.overflow_sub-result-2
-overflow_sub-result-2 c = omega (arith, c.requires.several)
-
-pub nonzero_div-result : goal.nonzero_div-result
-nonzero_div-result c = omega (arith, c.requires.several)
 
 pub returns : goal.returns
 returns c =

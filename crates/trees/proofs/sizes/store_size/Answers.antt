@@ -4,15 +4,9 @@ use Prim.Native.Nat.{ℕ, ◌+◌, ◌*◌, ◌≤◌}
 use native.Mathlib.Omega.{arith}
 use Rattle.merkle.proofs.Numbering.{size_inner}
 use Rattle.trees.specs.Shapes.{tree}
-use Rattle.trees.proofs.Shapes.{countable, regular, node_small}
+use Rattle.trees.proofs.Shapes.{regular, node_small}
 use Rattle.trees.proofs.Counts.{inner_few, size_small}
 use Rattle.trees.proofs.sizes.store_size.Goals as goal
-
-pub leaf_count-requires : goal.leaf_count-requires
-leaf_count-requires c = countable c.requires
-
-pub inner_count-requires : goal.inner_count-requires
-inner_count-requires c = c.requires
 
 pub overflow_add-result : goal.overflow_add-result
 overflow_add-result c =
