@@ -2,7 +2,7 @@
 use mathlib.Core.Path.{◌≡◌, refl, sym, ap, ap₂, ◌∙◌}
 use mathlib.Core.List.{List, [], ◌∷◌, ◌++◌, append_assoc}
 use Prim.Native.Nat.{ℕ, zero, suc, ◌+◌, ◌*◌, ◌-◌, ◌/◌, ◌≤◌, ◌<◌}
-use native.Mathlib.Nat.{mul_assoc, mul-add, mul-suc, mul-le-mul, mul-le-mul_left, mul-div-le, le_trans}
+use native.Mathlib.Nat.{mul_assoc, mul-add, mul-suc, mul-le-mul_left}
 use native.Mathlib.Numerals.{add-one}
 use native.Mathlib.Omega.{arith}
 use lib.ListN.{length, get_or, take, drop, set, replicate, length-drop, length-set, length-append}
@@ -72,16 +72,6 @@ module _ {p size rate from : ℕ} {bytes old : List ℕ} where
         long = length-set state i sum ∙ A.long;
         is = ap₂ (λ (xs : List ℕ) (a : ℕ). set xs i a) A.is total ∙ one_more_lem p block old i (omega arith) ∙ ap (λ (k : ℕ). add_block p k block old) (sym (add-one i));
       }
-
--- where a word of a block stands
-pub offset_few : (size i : ℕ) → size ≤ 7 → i ≤ 12 → size * i ≤ 84
-offset_few size i few h = mul-le-mul few h
-
--- where a block stands: at most a message's length on
-pub block_begins : (m n bytes : ℕ) → n < bytes / m + 1 → m * n ≤ bytes
-block_begins m n bytes h =
-    let before : n ≤ bytes / m = omega arith in
-    le_trans (mul-le-mul_left m before) (mul-div-le bytes m)
 
 -- ---- the blocks of a file
 

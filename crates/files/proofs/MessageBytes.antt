@@ -6,8 +6,8 @@ use Prim.Native.Nat.{ℕ, suc, ◌+◌, ◌*◌, ◌-◌, ◌%◌, ◌^◌, ◌�
 use native.Mathlib.Nat.{pow-succ', pow-le-pow_right, mod-lt, one-le-pow}
 use native.Mathlib.Omega.{arith}
 use lib.Dec.{ltb, lit<, lit≤}
-use lib.ListN.{length, get_or, take, drop, set, length-append, length-drop, get_or-append, get_or-eq_default}
-use lib.Seq.{get_or-append-add, get_or-append_seam, take_all}
+use lib.ListN.{length, get_or, take, drop, set, length-append, length-drop, get_or-append}
+use lib.Seq.{get_or-append-add, take_all}
 use borrow.Author.Tests.{ltb-false}
 use Rattle.modular.specs.Arithmetic.{all_words}
 use Rattle.modular.proofs.Words.{words_drop}
@@ -26,9 +26,6 @@ marked head contents = head ++ (contents ++ (1 ∷ []))
 -- ---- bytes
 
 module _ (head contents : List ℕ) where
-  pub head_byte : (at : ℕ) → at < length head → get_or head at 0 ≡ get_or (marked head contents) at 0
-  head_byte at h = sym (get_or-append head (contents ++ (1 ∷ [])) 0 at h)
-
   -- a byte behind the head
   behind_head : (at : ℕ) → length head ≤ at → get_or (contents ++ (1 ∷ [])) (at - length head) 0 ≡ get_or (marked head contents) at 0
   behind_head at h =
@@ -37,14 +34,6 @@ module _ (head contents : List ℕ) where
 
   pub contents_byte : (at : ℕ) → length head ≤ at → at - length head < length contents → get_or contents (at - length head) 0 ≡ get_or (marked head contents) at 0
   contents_byte at h g = sym (get_or-append contents (1 ∷ []) 0 (at - length head) g) ∙ behind_head at h
-
-  pub mark_byte : (at : ℕ) → length head ≤ at → at - length head ≡ length contents → 1 ≡ get_or (marked head contents) at 0
-  mark_byte at h e =
-      sym (get_or-append_seam contents 1 [] 0) ∙ ap (λ (j : ℕ). get_or (contents ++ (1 ∷ [])) j 0) (sym e) ∙ behind_head at h
-
-  pub zero_byte : (at : ℕ) → length head ≤ at → length contents < at - length head → 0 ≡ get_or (marked head contents) at 0
-  zero_byte at h g =
-      sym (get_or-eq_default (contents ++ (1 ∷ [])) 0 {n = at - length head} (omega (arith, length-append contents (1 ∷ [])))) ∙ behind_head at h
 
 -- ---- a word, byte by byte from its highest
 
@@ -85,13 +74,6 @@ module _ {size at : ℕ} {xs : List ℕ} where
       let short : size - i ≤ 6 = omega arith in
       let most : 256 ^ (size - i) ≤ 256 ^ 6 = pow-le-pow_right (lit< tt) short in
       omega (arith, most, G.below)
-
-  pub all_gathered : (i word : ℕ) → i ≡ 0 → Gathered size at xs i word → (word ≡ little_endian (take size (drop at xs))) × (word < 256 ^ size)
-  all_gathered i word e G =
-      let all : size - i ≡ size = omega arith in
-      let here : at + i ≡ at = omega arith in
-      let power : 256 ^ (size - i) ≡ 256 ^ size = ap (λ (n : ℕ). 256 ^ n) all in
-      (G.is ∙ ap₂ (λ (n k : ℕ). little_endian (take n (drop k xs))) all here, omega (arith, power, G.below))
 
 -- ---- the head
 

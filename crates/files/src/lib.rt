@@ -27,12 +27,10 @@ fn add_inner(rate: usize, bytes: &[u8], state: &mut [u64])
     ensures { state.new ≡ add_block prime rate (numbers_of word_bytes rate bytes.now) state.old }
 {
     let size = fields::word_bytes();
-    let mut i = 0;
-    while i < rate {
+    for i in 0..rate {
         let at = size * i;
         let word = encoding::low_bytes(encoding::number_of(&bytes[at..]), size);
         state[i] = added(state[i], word);
-        i += 1;
     }
 }
 
@@ -42,11 +40,9 @@ fn add_edge(rate: usize, head: &[u8], contents: &[u8], from: usize, state: &mut 
     ensures { state.new ≡ add_block prime rate (numbers_of word_bytes rate (drop from (head.now ++ (contents.now ++ (1 ∷ []))))) state.old }
 {
     let size = fields::word_bytes();
-    let mut i = 0;
-    while i < rate {
+    for i in 0..rate {
         let word = message::gathered(head, contents, from + size * i);
         state[i] = added(state[i], word);
-        i += 1;
     }
 }
 
@@ -83,11 +79,9 @@ fn absorb(
 {
     let size = fields::word_bytes() * rate;
     let blocks = (head.len() + contents.len()) / size + 1;
-    let mut n = 0;
-    while n < blocks {
+    for n in 0..blocks {
         add_block(rate, head, contents, size * n, state);
         permutations::permute(width, half, partial_rounds, diagonal, constants, state);
-        n += 1;
     }
 }
 

@@ -7,6 +7,7 @@ ghost use Rattle.blobs.specs.Blob.{blob_head};
 ghost use Rattle.fields.specs.Prime.{word_bytes};
 
 // What stands before so many bytes of contents, and how many bytes it is.
+#[tactic(auto, using(crate::proofs::MessageBytes::few_digits))]
 pub fn put_head(count: u64, head: &mut [u8]) -> usize
     requires { (count ≤ 4294967295) × (length head.old ≡ 16) }
     ensures value { result ≡ length (blob_head count) }
@@ -36,15 +37,14 @@ fn byte_at(head: &[u8], contents: &[u8], at: usize) -> u8
 }
 
 // The word of the bytes from a place on, byte by byte.
+#[tactic(auto, using(crate::proofs::MessageBytes::room, fields::proofs::Prime::bytes_few))]
 pub fn gathered(head: &[u8], contents: &[u8], at: usize) -> u64
     requires { at ≤ 17179869184 }
     ensures { (result ≡ little_endian (take word_bytes (drop at (head.now ++ (contents.now ++ (1 ∷ [])))))) × (result < 256 ^ word_bytes) }
 {
-    let mut word: u64 = 0;
-    let mut i = fields::word_bytes();
-    while 0 < i {
-        i -= 1;
-        word = 256 * word + encoding::wide(byte_at(head, contents, at + i));
+    let mut word = 0;
+    for i in (0..fields::word_bytes()).rev() {
+        word = 256 * word + u64::from(byte_at(head, contents, at + i));
     }
     word
 }
@@ -54,11 +54,5 @@ pub fn inside(head: &[u8], contents: &[u8], from: usize, count: usize) -> bool
     requires { (from ≤ 8589934592) × (count ≤ 92) }
     ensures { result ≡ not (ltb from (length head.now) || ltb (length contents.now) (from - length head.now + count)) }
 {
-    if from < head.len() {
-        return false;
-    }
-    if contents.len() < from - head.len() + count {
-        return false;
-    }
-    true
+    head.len() <= from && from - head.len() + count <= contents.len()
 }

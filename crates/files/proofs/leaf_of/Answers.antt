@@ -10,14 +10,6 @@ use Rattle.files.proofs.MessageBytes.{head_fits, head_taken}
 use Rattle.files.proofs.MessageBlocks.{zero_words, leaf_is}
 use Rattle.files.proofs.leaf_of.Goals as goal
 
-pub slice_bounds-places-end : goal.slice_bounds-places-end
-slice_bounds-places-end c =
-    width_small c.args.width c.requires.0 (omega arith)
-
-pub slice_bounds-state-end : goal.slice_bounds-state-end
-slice_bounds-state-end c =
-    sym (length-take-le _ _ (width_small c.args.width c.requires.0 (omega arith)))
-
 pub slice_bounds-head-end : goal.slice_bounds-head-end
 slice_bounds-head-end c =
     omega (arith, c.put_head-end.ensures.value, head_fits (length c.args.contents.now) c.requires.6)
@@ -46,11 +38,6 @@ absorb-requires c =
       length-take-le _ _ fits,
       zero_words positive c.args.width 12 fits,
     )
-
-pub copy_words-requires : goal.copy_words-requires
-copy_words-requires c =
-    let long = c.absorb.auto.state ∙ length-take-le _ _ (width_small c.args.width c.requires.0 (omega arith)) in
-    (omega (arith, long, c.requires.1), omega (arith, c.requires.7))
 
 pub returns : goal.returns
 returns c =

@@ -4,6 +4,3 @@ use Rattle.files.proofs.message.gathered.Given as goal
 
 abbrev pub invariant-loop-i : goal.invariant-loop-i
 invariant-loop-i l = Gathered word_bytes l.at (marked l.head l.contents) l.i l.word
-
-abbrev pub decreases-loop-i : goal.decreases-loop-i
-decreases-loop-i l = l.i
