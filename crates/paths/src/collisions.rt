@@ -6,7 +6,7 @@ ghost use Rattle.merkle.specs.Extraction.{collide_at};
 ghost use Rattle.trees.specs.Shapes.{tree, ValidNumbers, ValidSet};
 ghost use Rattle.paths.specs.Levels.{level_or};
 
-use crate::{comparison, path_node, path_row};
+use crate::{path_node, path_row};
 use trees::{Dimensions, nodes};
 
 // Whether two rows differ and the nodes that they compress to do not.
@@ -21,10 +21,8 @@ fn collide(
     ensures { result ≡ (not (same (take (d.arity * d.node_size) row) (take (d.arity * d.node_size) other_row))
         && same (take d.node_size node) (take d.node_size other)) }
 {
-    if !comparison::first_alike(&row, &other_row, d.arity * d.node_size) {
-        return comparison::first_alike(&node, &other, d.node_size);
-    }
-    false
+    let width = d.arity * d.node_size;
+    row[..width] != other_row[..width] && node[..d.node_size] == other[..d.node_size]
 }
 
 // The lowest level at which the rows of two leaves differ and compress alike, or the height. Both paths go up together, so each row is
@@ -49,8 +47,7 @@ pub fn lowest_level(
     let mut own = nodes::node_at(first, d.node_size, 0);
     let mut other = nodes::node_at(second, d.node_size, 0);
     let mut number = place;
-    let mut j: usize = 0;
-    while j < d.height {
+    for j in 0..d.height {
         let row = path_row(d, own, first_siblings, j * beside, number % arity);
         let other_row = path_row(d, other, second_siblings, j * beside, number % arity);
         let next = nodes::compress_row(d, diagonal, constants, row);
@@ -60,8 +57,7 @@ pub fn lowest_level(
         }
         own = next;
         other = other_next;
-        number = number / arity;
-        j += 1;
+        number /= arity;
     }
     d.height
 }

@@ -45,13 +45,10 @@ pub fn path_node(
     let beside = (arity - 1) * d.node_size;
     let mut own = nodes::node_at(leaf, d.node_size, 0);
     let mut number = place;
-    let mut j: usize = 0;
-    while j < level {
+    for j in 0..level {
         let row = path_row(d, own, siblings, j * beside, number % arity);
-        let next = nodes::compress_row(d, diagonal, constants, row);
-        own = next;
-        number = number / arity;
-        j += 1;
+        own = nodes::compress_row(d, diagonal, constants, row);
+        number /= arity;
     }
     own
 }
@@ -71,5 +68,5 @@ pub fn accepts(
     ensures { result ≡ accepts (tree d diagonal.now constants.now) d.height root.now place leaf.now siblings.now }
 {
     let own = path_node(d, diagonal, constants, place, leaf, siblings, d.height);
-    comparison::first_alike(&own, root, root.len())
+    &own[..root.len()] == root
 }

@@ -1,12 +1,8 @@
 use mathlib.Core.Path.{ap, ◌∙◌}
-use mathlib.Core.List.{List, []}
-use Prim.Native.Nat.{ℕ, ◌*◌, ◌-◌, ◌/◌, ◌<◌}
-use native.Mathlib.Nat.{mod-lt}
+use mathlib.Core.List.{List}
+use Prim.Native.Nat.{ℕ, ◌*◌, ◌/◌}
 use native.Mathlib.Omega.{arith}
-use Rattle.merkle.proofs.Levels.{fits}
-use Rattle.merkle.proofs.Openings.{but_one}
-use Rattle.trees.specs.Shapes.{tree}
-use Rattle.trees.proofs.Shapes.{regular, width_small}
+use Rattle.trees.proofs.Shapes.{width_small}
 use Rattle.paths.proofs.Rows.{power_fits, power_some, row_made, row_copied}
 use Rattle.paths.proofs.collisions.copy_row.Goals as goal
 
@@ -17,31 +13,6 @@ leaf_count-requires c =
 pub nonzero_div-number : goal.nonzero_div-number
 nonzero_div-number c =
     omega (arith, c.leaf_count.ensures, power_some c.requires.0.numbers c.args.level)
-
-pub overflow_mul-beside : goal.overflow_mul-beside
-overflow_mul-beside c =
-    omega (arith, but_one (tree c.args.d [] []) (regular c.requires.0.numbers [] []), width_small c.requires.0.numbers)
-
-pub overflow_mul-level : goal.overflow_mul-level
-overflow_mul-level c =
-    let a = c.args in
-    omega (arith, fits ((a.d.arity - 1) * a.d.node_size) a.d.height a.level c.requires.2, c.requires.3)
-
-pub path_row-made-requires : goal.path_row-made-requires
-path_row-made-requires c =
-    let a = c.args in
-    let s : 0 < a.d.arity = omega (arith, c.requires.0.numbers.several) in (
-      c.requires.0.numbers,
-      mod-lt _ s,
-      omega (arith, fits ((a.d.arity - 1) * a.d.node_size) a.d.height a.level c.requires.2, c.requires.3),
-    )
-
-pub overflow_mul-arity : goal.overflow_mul-arity
-overflow_mul-arity c = omega (arith, width_small c.requires.0.numbers)
-
-pub copy_words-requires : goal.copy_words-requires
-copy_words-requires c =
-    omega (arith, width_small c.requires.0.numbers, c.requires.4)
 
 pub returns : goal.returns
 returns c =
