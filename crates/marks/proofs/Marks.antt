@@ -13,7 +13,6 @@ use Rattle.merkle.specs.Marks.{is_marked, mark_node, mark_above, mark_change, re
 use Rattle.merkle.specs.Numbering.{inner, write_node}
 use Rattle.merkle.specs.Openings.{over}
 use Rattle.merkle.specs.Replacement.{Counted}
-use Rattle.merkle.proofs.Lists.{length-put}
 use Rattle.merkle.proofs.Numbering.{number_inner, row_before, node_inside}
 use Rattle.merkle.proofs.Openings.{over_below}
 use Rattle.merkle.proofs.Replacement.{leaf_fits}
@@ -100,9 +99,6 @@ module _ {d : Dimensions} (v : ValidNumbers d) (old leaf : List ℕ) (q : ℕ) (
   module _ (begun : List ℕ) (e : begun ≡ put old (q * d.node_size) (part 0 d.node_size leaf)) where
     leaf_put : begun ≡ put old (q * d.node_size) leaf
     leaf_put = e ∙ ap (put old (q * d.node_size)) (take_all d.node_size leaf (omega arith))
-
-    pub leaf_length : (D C : List ℕ) → length begun ≡ size (tree d D C) d.height
-    leaf_length D C = ap length leaf_put ∙ length-put old (q * d.node_size) leaf (omega (arith, leaf_inside)) ∙ lo D C
 
     pub leaf_marked : (after : List ℕ) → ((D C : List ℕ) → after ≡ mark_above (tree d D C) mark (d.arity ^ d.height) d.height q begun)
         → (D C : List ℕ) → after ≡ mark_change (tree d D C) mark d.height (record { place = q; leaf = leaf }) old
@@ -194,9 +190,3 @@ module _ {d : Dimensions} {D C : List ℕ} {w first : ℕ} {begun : List ℕ} {c
             ∙ ap (λ (i : ℕ). rewrite_marked S mark w i (sweep S mark w first (n - first) (counted begun count))) y
             ∙ ap (λ (i : ℕ). sweep S mark w first i (counted begun count)) z;
       }
-
-  pub swept_all : (n : ℕ) (store : List ℕ) (made : ℕ) → Swept d D C w first begun count n store made → inner (tree d D C) d.height ≤ n
-      → counted store made ≡ sweep (tree d D C) mark w first (inner (tree d D C) d.height - first) (counted begun count)
-  swept_all n store made K b =
-      let z : n - first ≡ inner (tree d D C) d.height - first = omega (arith, K.to) in
-      K.is ∙ ap (λ (i : ℕ). sweep (tree d D C) mark w first i (counted begun count)) z

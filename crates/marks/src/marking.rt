@@ -9,7 +9,7 @@ ghost use Rattle.marks.specs.Marks.{mark};
 use trees::{Dimensions, nodes};
 
 // The mark: 2^64 - 1, which is no word.
-pub const MARK: u64 = 18446744073709551615;
+pub const MARK: u64 = u64::MAX;
 
 // Whether the node of number `leaves` + n bears the mark, in its first word.
 pub fn is_marked(d: Dimensions, store: &[u64], leaves: usize, n: usize) -> bool
@@ -34,18 +34,14 @@ fn mark_above(d: Dimensions, store: &mut [u64], leaves: usize, place: usize)
         × (place < d.arity ^ d.height) }
     ensures { (D C : List ℕ) → store.new ≡ mark_above (tree d D C) mark (d.arity ^ d.height) d.height place store.old }
 {
-    let arity = d.arity;
-    let height = d.height;
     let mut number = place;
-    let mut level: usize = 0;
-    while level < height {
-        let n = number / arity;
+    for _ in 0..d.height {
+        let n = number / d.arity;
         if is_marked(d, store, leaves, n) {
             return;
         }
         mark_node(d, store, leaves, n);
         number = leaves + n;
-        level += 1;
     }
 }
 

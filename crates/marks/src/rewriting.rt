@@ -69,10 +69,8 @@ pub fn sweep(
 {
     let inner = sizes::inner_count(d);
     let mut made = count;
-    let mut n = first;
-    while n < inner {
+    for n in first..inner {
         made = rewrite_marked(d, diagonal, constants, store, leaves, n, made);
-        n += 1;
     }
     made
 }

@@ -6,16 +6,13 @@ use lib.ListN.{length}
 use Rattle.merkle.specs.Marks.{is_marked}
 use Rattle.trees.specs.Shapes.{tree}
 use Rattle.trees.proofs.Rows.{number_small}
-use Rattle.trees.proofs.Shapes.{node_some, regular}
+use Rattle.trees.proofs.Shapes.{regular}
 use Rattle.marks.proofs.marking.is_marked.Goals as goal
 
 pub overflow_add-at : goal.overflow_add-at
 overflow_add-at c =
     let a = c.args in
     omega (arith, number_small (tree a.d [] []) (regular c.requires.0 [] []) (a.leaves + a.n) (length a.store.now) c.requires.1)
-
-pub bounds-store-at : goal.bounds-store-at
-bounds-store-at c = omega (arith, node_some c.requires.0, c.requires.1)
 
 pub returns : goal.returns
 unfolding is_marked

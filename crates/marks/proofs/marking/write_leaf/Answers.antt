@@ -1,21 +1,11 @@
 use native.Mathlib.Omega.{arith}
-use Rattle.marks.proofs.Marks.{leaf_inside, leaf_length, leaf_marked}
+use Rattle.marks.proofs.Marks.{leaf_inside, leaf_marked}
 use Rattle.marks.proofs.marking.write_leaf.Goals as goal
-
-pub overflow_mul-place : goal.overflow_mul-place
-overflow_mul-place c =
-    let a = c.args in
-    omega (arith, leaf_inside c.requires.0 a.store.now a.leaf.now a.place c.requires.3 c.requires.4 c.requires.1)
 
 pub copy_words-requires : goal.copy_words-requires
 copy_words-requires c =
     let a = c.args in
     (omega (arith, c.requires.4), leaf_inside c.requires.0 a.store.now a.leaf.now a.place c.requires.3 c.requires.4 c.requires.1)
-
-pub mark_above-requires : goal.mark_above-requires
-mark_above-requires c =
-    let a = c.args in
-    (c.requires.0, leaf_length c.requires.0 a.store.now a.leaf.now a.place c.requires.3 c.requires.4 c.requires.1 _ c.copy_words.ensures, c.requires.2, c.requires.3)
 
 pub returns : goal.returns
 returns c =

@@ -1,16 +1,11 @@
-use mathlib.Core.Path.{sym, ap, ◌∙◌}
-use Prim.Native.Nat.{◌-◌, ◌<◌}
+use Prim.Native.Nat.{◌<◌}
 use native.Mathlib.Omega.{arith}
 use Rattle.merkle.specs.Numbering.{inner}
-use Rattle.merkle.specs.Replacement.{Counted}
 use Rattle.trees.specs.Shapes.{tree}
 use Rattle.trees.proofs.Counts.{inner_few}
 use Rattle.trees.proofs.Shapes.{regular}
-use Rattle.marks.proofs.Marks.{swept_none, swept_more, swept_all, row_inside, node_there}
+use Rattle.marks.proofs.Marks.{swept_none, swept_more, row_inside, node_there}
 use Rattle.marks.proofs.rewriting.sweep.Goals as goal
-
-pub inner_count-inner-requires : goal.inner_count-inner-requires
-inner_count-inner-requires c = c.requires.0.numbers
 
 pub loop-n-init : goal.loop-n-init
 loop-n-init c = swept_none c.requires.1 c.requires.3
@@ -27,23 +22,8 @@ rewrite_marked-made-requires c =
       omega (arith, K.few, c.requires.4, c.requires.2, inner_few (tree a.d a.diagonal.now a.constants.now) (regular v a.diagonal.now a.constants.now) a.d.height),
     )
 
-pub overflow_add-n : goal.overflow_add-n
-overflow_add-n c = omega arith
-
-pub loop-n-smaller : goal.loop-n-smaller
-loop-n-smaller c = omega arith
-
 pub loop-n-preserved : goal.loop-n-preserved
 loop-n-preserved c =
     let a = c.args in
     let b : c.loop-n.n < inner (tree a.d a.diagonal.now a.constants.now) a.d.height = rw (c.inner_count-inner.ensures a.diagonal.now a.constants.now) at c.loop-n-test.true in
     swept_more c.requires.0.numbers c.requires.2 c.loop-n.n c.loop-n.store c.loop-n.made c.loop-n.invariant b _ _ c.rewrite_marked-made.ensures.0 c.rewrite_marked-made.ensures.1
-
-pub shape_of-store : goal.shape_of-store
-shape_of-store c = c.loop-n.invariant.whole ∙ sym c.requires.1
-
-pub returns : goal.returns
-returns c =
-    let a = c.args in
-    let e = swept_all c.loop-n.n c.loop-n.store c.loop-n.made c.loop-n.invariant (omega (arith, c.inner_count-inner.ensures a.diagonal.now a.constants.now, c.loop-n-test.false)) in
-    (ap (λ (s : Counted). s.store) e, ap (λ (s : Counted). s.made) e)
