@@ -5,12 +5,13 @@ use Prim.Native.Nat.{ℕ, ◌*◌, ◌%◌, ◌^◌, ◌≤◌}
 use native.Mathlib.Nat.{mod-eq_of_lt, one-mul, pow-le-pow_right}
 use native.Mathlib.Omega.{arith}
 use lib.Dec.{lit<}
-use lib.ListN.{take}
+use lib.ListN.{take, get_or}
 use Rattle.modular.proofs.Powers.{pow-mul}
 use Rattle.std.specs.Int.{w64, from_le_bytes}
 use Rattle.octets.specs.Numbers.{little_endian}
 
-pub eight_bytes : (xs : List ℕ) → from_le_bytes w64 (take 8 xs) ≡ little_endian (take 8 xs)
+pub eight_bytes : (xs : List ℕ)
+    → from_le_bytes w64 (get_or xs 0 0 ∷ get_or xs 1 0 ∷ get_or xs 2 0 ∷ get_or xs 3 0 ∷ get_or xs 4 0 ∷ get_or xs 5 0 ∷ get_or xs 6 0 ∷ get_or xs 7 0 ∷ []) ≡ little_endian (take 8 xs)
 unfolding little_endian
 eight_bytes [] = refl
 eight_bytes (a ∷ []) = omega arith

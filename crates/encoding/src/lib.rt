@@ -10,10 +10,9 @@ pub fn number_of(bytes: &[u8]) -> u64
     requires { 8 ≤ length bytes.now }
     ensures { result ≡ little_endian (take 8 bytes.now) }
 {
-    let Some(first) = bytes.first_chunk::<8>() else {
-        unreachable!();
-    };
-    u64::from_le_bytes(*first)
+    u64::from_le_bytes([
+        bytes[0], bytes[1], bytes[2], bytes[3], bytes[4], bytes[5], bytes[6], bytes[7],
+    ])
 }
 
 // The number of the n lowest bytes of a number.
