@@ -34,7 +34,8 @@ fn add_inner(rate: usize, bytes: &[u8], state: &mut [u64])
     }
 }
 
-// The message block that begins at a byte of the padded message, byte by byte.
+// The message block that begins at a byte of the padded message, byte by byte. One function for both, over what reads a word, would need a
+// contract for that longer than this loop.
 fn add_edge(rate: usize, head: &[u8], contents: &[u8], from: usize, state: &mut [u64])
     requires { (rate ≤ length state.old) × (rate ≤ 12) × (from ≤ 8589934592) × (Words prime state.old) }
     ensures { state.new ≡ add_block prime rate (numbers_of word_bytes rate (drop from (head.now ++ (contents.now ++ (1 ∷ []))))) state.old }

@@ -31,12 +31,11 @@ pub fn compress_row(
     d: Dimensions,
     diagonal: &[u64; 12],
     constants: &[u64; 208],
-    row: [u64; 12],
+    mut row: [u64; 12],
 ) -> [u64; 6]
     requires { ValidSet d constants.now }
     ensures { take d.node_size result ≡ (tree d diagonal.now constants.now).compress (take (d.arity * d.node_size) row) }
 {
-    let mut x = row;
     permutations::compress_at(
         d.arity * d.node_size,
         d.node_size,
@@ -44,11 +43,11 @@ pub fn compress_row(
         d.partial_rounds,
         diagonal,
         constants,
-        &mut x,
+        &mut row,
         0,
         0,
     );
-    let Some(node) = x.first_chunk::<6>() else {
+    let Some(node) = row.first_chunk::<6>() else {
         unreachable!();
     };
     *node

@@ -40,7 +40,8 @@ fn copy_siblings(d: Dimensions, store: &[u64], n: usize, c: usize, target: &mut 
     copy_two(store, start, before, behind, rest, target, to);
 }
 
-// The siblings of the h nodes from the place on, ascending.
+// The siblings of the h nodes from the place on, ascending. Each climb has its own loop: an iterator of the numbers would be a type with
+// laws in place of two lines.
 pub fn open(d: Dimensions, store: &[u64], place: usize, siblings: &mut [u64])
     requires { (ValidNumbers d) × ((D C : List ℕ) → length store.now ≡ size (tree d D C) d.height) × (place < d.arity ^ d.height)
         × (length siblings.old ≡ d.height * ((d.arity - 1) * d.node_size)) }

@@ -6,7 +6,7 @@ ghost use Rattle.trees.specs.Shapes.{tree, ValidNumbers};
 
 use crate::Dimensions;
 
-// The leaves: k^h.
+// The leaves: k^h. Not by `pow`, whose exponent has 32 bits: where k is 1, any h may come.
 pub fn leaf_count(arity: usize, height: usize) -> usize
     requires { (1 ≤ arity) × (arity ^ height ≤ 4294967296) }
     ensures { result ≡ arity ^ height }
