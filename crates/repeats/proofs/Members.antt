@@ -1,14 +1,17 @@
 -- Numbers of a list, how often one stands in it, and lists in which none stands twice.
-use mathlib.Core.Path.{◌≡◌, refl, sym, ap, ◌∙◌}
+use mathlib.Core.Path.{◌≡◌, refl, sym, ap, ap₂, ◌∙◌}
 use mathlib.Core.Bool.{Bool, true, false, cond, ◌||◌, false≢true, or-true, or_assoc}
 use mathlib.Core.List.{List, [], ◌∷◌, ◌++◌}
-use Prim.Native.Nat.{ℕ, suc, ◌+◌, ◌≤◌, ◌<◌}
+use Prim.Native.Nat.{ℕ, zero, suc, ◌+◌, ◌*◌, ◌/◌, ◌≤◌, ◌<◌}
+use native.Mathlib.Nat.{suc-mul}
 use native.Mathlib.Omega.{arith}
 use lib.Dec.{eqb}
-use lib.ListN.{length, drop}
+use lib.ListN.{length, take, drop}
 use borrow.Author.Tests.{eqb-true, eq-eqb, ne_eqb}
-use Rattle.modular.proofs.Fours.{four_at, from_four}
-use Rattle.modular.proofs.Undecided.{Undecided}
+use Rattle.std.specs.List.{list_any}
+use Rattle.std.specs.Simd.{first_chunks}
+use Rattle.std.proofs.lemmas.List.{take-append-drop, drop-drop}
+use Rattle.std.proofs.lemmas.List.Folds.{list_any-append}
 use Rattle.repeats.specs.Repeats.{member, repeats}
 
 -- ---- tests
@@ -48,18 +51,26 @@ member_last x xs q f e = go (eqb x q) refl (sym (ap (λ (b : Bool). b || (eqb x 
     go true g h = eqb-true x q g
     go false g h = absurd (false≢true h)
 
--- the loop that looks at four a turn
-module _ (x : ℕ) (xs : List ℕ) (i : ℕ) (U : Undecided (member x) xs i) (h : i + 4 ≤ length xs) {b : Bool} (e : b ≡ member x (four_at xs i)) where
-  four_left : {r : Bool} → b ≡ r → member x xs ≡ (r || member x (drop (i + 4) xs))
-  four_left f =
-      U.1 ∙ ap (member x) (from_four xs i h) ∙ member_append x (four_at xs i) (drop (i + 4) xs)
-      ∙ ap (λ (r : Bool). r || member x (drop (i + 4) xs)) (sym e ∙ f)
+-- as the library's search has it
+any_member : (x : ℕ) (xs : List ℕ) → list_any (λ y. eqb y x) xs ≡ member x xs
+unfolding member
+any_member x [] = refl
+any_member x (y ∷ ys) = ap₂ (λ (a b : Bool). a || b) (eqb_sym y x) (any_member x ys)
 
-  pub four_among : b ≡ true → member x xs ≡ true
-  four_among f = four_left f
+-- in n chunks of k, and in what is left
+any_in_chunks : (p : ℕ → Bool) (k n : ℕ) (xs : List ℕ) → (list_any (list_any p) (first_chunks k n xs) || list_any p (drop (n * k) xs)) ≡ list_any p xs
+any_in_chunks p k zero xs = let e : zero * k ≡ 0 = omega arith in ap (λ (m : ℕ). list_any p (drop m xs)) e
+any_in_chunks p k (suc n) xs =
+    let e : suc n * k ≡ k + n * k = omega (arith, suc-mul n k) in
+    let rest : drop (suc n * k) xs ≡ drop (n * k) (drop k xs) = ap (λ (m : ℕ). drop m xs) e ∙ sym (drop-drop (n * k) k xs) in
+    or_assoc (list_any p (take k xs)) (list_any (list_any p) (first_chunks k n (drop k xs))) (list_any p (drop (suc n * k) xs))
+    ∙ ap (λ (ys : List ℕ). list_any p (take k xs) || (list_any (list_any p) (first_chunks k n (drop k xs)) || list_any p ys)) rest
+    ∙ ap (λ (b : Bool). list_any p (take k xs) || b) (any_in_chunks p k n (drop k xs))
+    ∙ sym (list_any-append p (take k xs) (drop k xs)) ∙ ap (list_any p) (take-append-drop k xs)
 
-  pub four_others : b ≡ false → Undecided (member x) xs (i + 4)
-  four_others f = (h, four_left f)
+pub four_a_turn : (x : ℕ) (xs : List ℕ) {a b : Bool} → a ≡ list_any (list_any (λ y. eqb y x)) (first_chunks 4 (length xs / 4) xs)
+    → b ≡ list_any (λ y. eqb y x) (drop (length xs / 4 * 4) xs) → (a || b) ≡ member x xs
+four_a_turn x xs e f = ap₂ (λ (a b : Bool). a || b) e f ∙ any_in_chunks (λ y. eqb y x) 4 (length xs / 4) xs ∙ any_member x xs
 
 -- ---- a number more at the end
 

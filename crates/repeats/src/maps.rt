@@ -2,7 +2,8 @@
 ghost use Rattle.std.specs.Prelude.{◌≡◌, length};
 ghost use Rattle.repeats.specs.Maps.{map_words, note};
 
-const WINDOW: u64 = 1048576;
+// How many numbers a map has a bit for.
+pub const WINDOW: u64 = 1048576;
 
 // A number is noted if the map has a bit for it: whether it was noted before.
 pub fn note(map: &mut [u64], base: u64, number: u64) -> bool

@@ -1,5 +1,4 @@
 use mathlib.Core.Path.{◌≡◌, ap}
-use Prim.Native.Nat.{◌-◌, ◌/◌}
 use native.Mathlib.Omega.{arith}
 use Rattle.repeats.specs.Maps.{Noting}
 use Rattle.repeats.proofs.Notes.{note_before, note_behind, note_again, note_fits, note_new}
@@ -21,8 +20,7 @@ returns-then-word-bit-eq1 c = both (note_again _ _ _ c.if-number-base.false c.if
 pub overflow_add-map : goal.overflow_add-map
 overflow_add-map c =
     let a = c.args in
-    let small = c.slice_known-1.given ((a.number - a.base) / 64) in
-    record { fits = note_fits a.base a.number a.map.now c.if-number-base.false c.if-at-ge-WINDOW.false c.if-word-bit-eq1.false (omega (arith, small)) }
+    record { fits = note_fits a.base a.number a.map.now c.if-number-base.false c.if-at-ge-WINDOW.false c.if-word-bit-eq1.false (omega arith) }
 
 pub returns : goal.returns
 returns c = both (note_new _ _ _ c.if-number-base.false c.if-at-ge-WINDOW.false c.if-word-bit-eq1.false)

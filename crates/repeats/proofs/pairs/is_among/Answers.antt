@@ -1,20 +1,16 @@
-use mathlib.Core.Path.{refl, sym, ◌∙◌}
-use native.Mathlib.Omega.{arith}
-use Rattle.modular.proofs.Undecided.{decided_rest}
-use Rattle.repeats.specs.Repeats.{member}
-use Rattle.repeats.proofs.Members.{four_among, four_others}
+use mathlib.Core.Path.{refl, ap, ◌∙◌}
+use lib.Dec.{eqb}
+use Rattle.std.specs.List.{list_any}
+use Rattle.repeats.proofs.Members.{four_a_turn}
 use Rattle.repeats.proofs.pairs.is_among.Goals as goal
 
-pub loop-i-init : goal.loop-i-init
-loop-i-init c = (omega arith, refl)
+pub returns-then-is_in_fours : goal.returns-then-is_in_fours
+returns-then-is_in_fours c =
+    let e = c.is_in_fours.ensures ∙ ap (list_any (list_any (λ y. eqb y c.args.number))) c.as_chunks.ensures.front in
+    c.if-is_in_fours.true ∙ rw c.if-is_in_fours.true at (four_a_turn c.args.number c.args.numbers.now e refl)
 
-pub returns-then-is_among_four : goal.returns-then-is_among_four
-returns-then-is_among_four c =
-    sym (four_among _ _ _ c.loop-i.invariant (omega arith) c.is_among_four.ensures c.if-is_among_four.true)
-
-pub loop-i-preserved : goal.loop-i-preserved
-loop-i-preserved c =
-    four_others _ _ _ c.loop-i.invariant (omega arith) c.is_among_four.ensures c.if-is_among_four.false
-
-pub returns : goal.returns
-returns c = c.is_among_few.ensures ∙ decided_rest (member _) _ _ c.loop-i.invariant
+pub returns-else-is_in_fours : goal.returns-else-is_in_fours
+returns-else-is_in_fours c =
+    let e = c.is_in_fours.ensures ∙ ap (list_any (list_any (λ y. eqb y c.args.number))) c.as_chunks.ensures.front in
+    let f = c.contains.ensures.value ∙ ap (list_any (λ y. eqb y c.args.number)) c.as_chunks.ensures.back in
+    rw c.if-is_in_fours.false at (four_a_turn c.args.number c.args.numbers.now e f)
