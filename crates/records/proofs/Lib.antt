@@ -1,4 +1,3 @@
--- The laws of records, and of the places that are kept.
+-- The laws of records.
 pub mod Changes
-mod Keeping
 pub mod Listed

@@ -1,7 +1,7 @@
 -- The tests of a push, as its code makes them: each record is tested, and where the tests leave it open, a place that stands twice is
 -- searched.
 -- Nothing here has to be believed: that a push made of them is what its definition says is proved in push_entries.
-use Rattle.std.specs.Prelude.{◌≡◌, Bool, true, cond, not, ◌&&◌, ◌||◌, List, ℕ, ◌+◌, ◌*◌, ◌/◌, ◌%◌, ◌^◌, ◌≤◌, ◌<◌, eqb, ltb, leb, length, take, set}
+use Rattle.std.specs.Prelude.{◌≡◌, Bool, true, false, cond, not, ◌&&◌, ◌||◌, List, ℕ, ◌+◌, ◌*◌, ◌/◌, ◌%◌, ◌^◌, ◌≤◌, ◌<◌, eqb, ltb, leb, length, take, set}
 use Rattle.modular.specs.Arithmetic.{all_words}
 use Rattle.refusals.specs.Table.{first_refusal}
 use Rattle.parameters.specs.declared.ParameterSet.{ParameterSet}
@@ -21,6 +21,24 @@ pub record Pass : Type 0 where
 
 abbrev pub pass : Tally → List ℕ → Pass
 pass t buffer = record { tally = t; buffer = buffer }
+
+-- before the first record: nothing is refused or found, and there are no places yet
+abbrev pub empty_tally : Tally
+empty_tally = record {
+  number = 0;
+  places = 0;
+  placed = true;
+  words = true;
+  distinct = true;
+  rising = true;
+  above = 0;
+  few = false;
+  kept = 0;
+  levels = 0;
+  before = 0;
+  under = 0;
+  made = 0;
+}
 
 -- a tally at the numbers of a level, and with this count
 abbrev pub ranked : Tally → ℕ → ℕ → ℕ → Tally

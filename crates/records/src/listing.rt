@@ -20,6 +20,6 @@ pub fn record_at(numbers: &[u64], i: usize) -> Record
     ];
     Record {
         place: numbers[at],
-        words: words,
+        words,
     }
 }

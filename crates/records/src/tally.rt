@@ -1,6 +1,6 @@
 // What a push has found and made so far.
 ghost use Rattle.std.specs.Prelude.{◌≡◌};
-ghost use Rattle.records.specs.Tests.{ranked};
+ghost use Rattle.records.specs.Tests.{empty_tally, ranked};
 
 #[derive(Clone, Copy)]
 pub struct Tally {
@@ -26,23 +26,37 @@ pub struct Tally {
     pub made: u64,
 }
 
+impl Tally {
+    // Before the first record: nothing is refused or found, and there are no places yet.
+    pub fn empty() -> Tally
+        ensures { result ≡ empty_tally }
+    {
+        Tally {
+            number: 0,
+            places: 0,
+            placed: true,
+            words: true,
+            distinct: true,
+            rising: true,
+            above: 0,
+            few: false,
+            kept: 0,
+            levels: 0,
+            before: 0,
+            under: 0,
+            made: 0,
+        }
+    }
+}
+
 // The same at the numbers of a level, and with this count.
 pub fn ranked(tally: Tally, before: usize, under: usize, made: u64) -> Tally
     ensures { result ≡ ranked tally before under made }
 {
     Tally {
-        number: tally.number,
-        places: tally.places,
-        placed: tally.placed,
-        words: tally.words,
-        distinct: tally.distinct,
-        rising: tally.rising,
-        above: tally.above,
-        few: tally.few,
-        kept: tally.kept,
-        levels: tally.levels,
-        before: before,
-        under: under,
-        made: made,
+        before,
+        under,
+        made,
+        ..tally
     }
 }
