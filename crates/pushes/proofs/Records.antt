@@ -6,21 +6,21 @@ use Prim.Native.Nat.{ℕ, suc, ◌+◌, ◌*◌, ◌-◌, ◌/◌, ◌≤◌, �
 use native.Mathlib.Omega.{arith}
 use lib.Dec.{eqb, ltb}
 use lib.ListN.{length}
-use borrow.Author.Tests.{ne_eqb, eqb-true, ltb-true, le-ltb}
+use borrow.Author.Tests.{eqb-true, ltb-true}
 use Rattle.modular.proofs.Words.{left_true, right_true}
 use Rattle.parameters.specs.declared.ParameterSet.{ParameterSet}
 use Rattle.merkle.specs.Levels.{Shape}
 use Rattle.merkle.specs.Marks.{is_marked, rewrite_marked}
 use Rattle.merkle.specs.Numbering.{write_node}
 use Rattle.merkle.specs.Replacement.{Counted}
-use Rattle.repeats.specs.Maps.{window, map_words, note}
+use Rattle.repeats.specs.Maps.{window, note}
 use Rattle.trees.specs.Shapes.{counted}
 use Rattle.trees.specs.SetTrees.{tree_of_set}
 use Rattle.marks.specs.Marks.{mark}
 use Rattle.records.specs.declared.record.Record.{Record}
 use Rattle.records.specs.declared.tally.Tally.{Tally}
 use Rattle.records.specs.Records.{leaf_of}
-use Rattle.records.specs.Tests.{Pass, pass, Going, one_more, tested, test_of, is_clear, found, note_of, room_of}
+use Rattle.records.specs.Tests.{Pass, pass, Going, one_more, tested, test_of, is_clear, found, note_of}
 use Rattle.pushes.specs.Passes.{may_write, may_rise, wrote, mark_leaf, mark_of, rise_of, step_of}
 
 -- ---- a write that is allowed
@@ -139,21 +139,3 @@ goes_on s phase r u buffer n e G =
       rank = λ z f. rw (F.before, F.under) (G.rank z (sym F.number ∙ f));
       low = G.low;
     }
-
--- ---- what each phase presumes of its step
-
-module _ {s : ParameterSet} {phase : ℕ} {buffer : List ℕ} {t : Tally} {n : ℕ} where
-  pub going_first : phase ≡ 0 → Going s phase buffer t n → Going s 0 buffer t n
-  going_first e G = subst (λ (m : ℕ). Going s m buffer t n) e G
-
-  pub going_mark : phase ≡ 1 → Going s phase buffer t n → Going s 1 buffer t n
-  going_mark e G = subst (λ (m : ℕ). Going s m buffer t n) e G
-
-  pub going_level : phase ≡ 2 → Going s phase buffer t n → Going s 2 buffer t n
-  going_level e G = subst (λ (m : ℕ). Going s m buffer t n) e G
-
-  pub going_note : (phase ≡ 0 → ⊥) → (phase ≡ 1 → ⊥) → (phase ≡ 2 → ⊥) → Going s phase buffer t n → t.number ≡ 0 → length buffer ≡ map_words
-  unfolding room_of
-  going_note a b c G z =
-      let high : 3 ≤ phase = omega arith in
-      G.whole z ∙ rw (ne_eqb phase 0 a, le-ltb phase 3 high)

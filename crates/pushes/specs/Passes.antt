@@ -16,6 +16,8 @@ use Rattle.marks.specs.Marks.{mark, Rank}
 use Rattle.records.specs.declared.record.Record.{Record}
 use Rattle.records.specs.declared.tally.Tally.{Tally}
 use Rattle.records.specs.Records.{leaf_of}
+use Rattle.pushes.specs.declared.phase.Phase.{Phase}
+use Rattle.pushes.specs.declared.phase.Phase.TheVariants.{Test, Mark, Level, Search}
 use Rattle.records.specs.Tests.{Pass, pass, test_of, is_clear, ranked, note_of, search_end}
 
 -- ---- the leaves, the marks and the nodes
@@ -50,6 +52,13 @@ rise_of s q u =
     u
 
 -- ---- the passes
+
+-- the phases' numbers
+abbrev pub phase_number : Phase → ℕ
+phase_number Test = 0
+phase_number Mark = 1
+phase_number Level = 2
+phase_number (Search w) = 3 + w
 
 -- phase 0 tests, 1 writes leaves and marks, 2 goes over a level, and 3 + w searches window w
 unfoldable pub step_of : ParameterSet → ℕ → Record → Pass → Pass

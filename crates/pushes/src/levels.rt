@@ -13,7 +13,6 @@ ghost use Rattle.pushes.specs.Passes.{Sweeping, Risen, levels_by, by_records, ne
 use crate::steps;
 use marks::rewriting;
 use parameters::ParameterSet;
-use records::tally;
 use records::tally::Tally;
 use trees::sets;
 
@@ -23,25 +22,25 @@ pub fn count(arity: u64, height: u64, places: u64, most: u64) -> u64
     ensures { result ≡ levels_by arity height places most }
 {
     let mut nodes = places;
-    let mut level: u64 = 0;
-    while level < height {
-        nodes = nodes / arity;
+    for level in 0..height {
+        nodes /= arity;
         if nodes <= most {
             return level;
         }
-        level += 1;
     }
-    level
+    height
 }
 
 // So many of a tally, and none where anything is refused.
+#[tactic(auto, unfolding(crate::specs::Passes::by_records))]
 pub fn by_records(tally: Tally) -> u64
     ensures { result ≡ by_records tally }
 {
-    if !steps::may_rise(tally) {
-        return 0;
+    if steps::may_rise(tally) {
+        tally.levels
+    } else {
+        0
     }
-    tally.levels
 }
 
 // The numbers of the level above.
@@ -50,8 +49,11 @@ pub fn next(set: ParameterSet, tally: Tally) -> Tally
     ensures { result ≡ next_of set tally }
 {
     let d = sets::dimensions(set);
-    let before = tally.before + tally.places as usize / tally.under;
-    tally::ranked(tally, before, tally.under * d.arity, tally.made)
+    Tally {
+        before: tally.before + tally.places as usize / tally.under,
+        under: tally.under * d.arity,
+        ..tally
+    }
 }
 
 // The marked nodes from the first of these numbers on: the count that is handed in goes on.
@@ -62,12 +64,10 @@ fn sweep_from(set: ParameterSet, store: &mut [u64], places: u64, before: usize, 
         × (store.new ≡ (sweep (tree_of_set set) mark places before (inner (tree_of_set set) set.height - before) (counted store.old made)).store) }
 {
     let d = sets::dimensions(set);
-    let diagonal = set.diagonal;
-    let constants = set.constants;
     rewriting::sweep(
         d,
-        &diagonal,
-        &constants,
+        &set.diagonal,
+        &set.constants,
         store,
         places as usize,
         before,
@@ -76,6 +76,7 @@ fn sweep_from(set: ParameterSet, store: &mut [u64], places: u64, before: usize, 
 }
 
 // All levels above those that are made by the records, node by node, where nothing is refused.
+#[tactic(auto, using(crate::proofs::Records::rise_unrefused), unfolding(crate::specs::Passes::sweep_of))]
 pub fn sweep(set: ParameterSet, store: &mut [u64], tally: Tally) -> Tally
     requires { Sweeping set store.old tally }
     ensures { (result ≡ (sweep_of set (pass tally store.old)).tally)
@@ -85,5 +86,5 @@ pub fn sweep(set: ParameterSet, store: &mut [u64], tally: Tally) -> Tally
         return tally;
     }
     let made = sweep_from(set, store, tally.places, tally.before, tally.made);
-    tally::ranked(tally, tally.before, tally.under, made)
+    Tally { made, ..tally }
 }

@@ -2,4 +2,7 @@
 #![tactic(auto)]
 
 pub mod levels;
+pub mod phase;
 pub mod steps;
+
+pub use phase::Phase;

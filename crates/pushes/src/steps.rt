@@ -7,27 +7,31 @@ ghost use Rattle.trees.specs.Shapes.{counted};
 ghost use Rattle.trees.specs.SetTrees.{tree_of_set, dimensions_of, leaf_count, store_words};
 ghost use Rattle.marks.specs.Marks.{mark, Rank};
 ghost use Rattle.records.specs.Tests.{pass, Going};
-ghost use Rattle.pushes.specs.Passes.{may_write, may_rise, mark_leaf, mark_of, rise_of, step_of};
+ghost use Rattle.pushes.specs.Passes.{may_write, may_rise, mark_leaf, mark_of, rise_of, phase_number, step_of};
 
+use crate::phase::Phase;
 use marks::{marking, rewriting};
 use parameters::ParameterSet;
+use records::Record;
 use records::tally::Tally;
-use records::testing::{both, is_clear, note_record, test_record};
-use records::{Record, tally};
+use records::testing::{is_clear, note_record, test_record};
+use repeats::maps::WINDOW;
 use trees::sets;
 
 // Whether nothing is refused, and the place is there.
+#[tactic(auto, unfolding(crate::specs::Passes::may_write, crate::specs::Passes::may_rise))]
 fn may_write(tally: Tally, place: u64) -> bool
     ensures { result ≡ may_write tally place }
 {
-    both(is_clear(tally), both(tally.distinct, place < tally.places))
+    may_rise(tally) && place < tally.places
 }
 
 // Whether nothing is refused.
+#[tactic(auto, unfolding(crate::specs::Passes::may_rise))]
 pub fn may_rise(tally: Tally) -> bool
     ensures { result ≡ may_rise tally }
 {
-    both(is_clear(tally), tally.distinct)
+    is_clear(tally) && tally.distinct
 }
 
 // A record's leaf, the first of its six words, is written if its place is there, and the nodes above it are marked.
@@ -43,15 +47,8 @@ pub fn mark_leaf(set: ParameterSet, store: &mut [u64], places: u64, place: u64, 
     marking::write_leaf(d, store, places as usize, place as usize, &words[..end]);
 }
 
-// The same of words by value, as a record has them.
-fn mark_record(set: ParameterSet, store: &mut [u64], places: u64, place: u64, words: [u64; 6])
-    requires { (first_refusal (set_refusals set) ≡ 0) × (length store.old ≡ store_words set) × (places ≡ leaf_count set) }
-    ensures { store.new ≡ mark_leaf set places place (take set.node_size words) store.old }
-{
-    mark_leaf(set, store, places, place, &words);
-}
-
 // The pass after the tests: a record's leaf is written where nothing is refused.
+#[tactic(auto, using(crate::proofs::Records::rise_unrefused), unfolding(crate::specs::Passes::mark_of, records::specs::Tests::room_of))]
 pub fn mark_item(set: ParameterSet, store: &mut [u64], tally: Tally, item: Record) -> Tally
     requires { Going set 1 store.old tally 1 }
     ensures { (result ≡ (mark_of set item (pass tally store.old)).tally)
@@ -60,8 +57,7 @@ pub fn mark_item(set: ParameterSet, store: &mut [u64], tally: Tally, item: Recor
     if !may_rise(tally) {
         return tally;
     }
-    let words = item.words;
-    mark_record(set, store, tally.places, item.place, words);
+    mark_leaf(set, store, tally.places, item.place, &item.words);
     tally
 }
 
@@ -81,12 +77,10 @@ fn rewrite_record(
         × (store.new ≡ (rewrite_marked (tree_of_set set) mark places (before + place / under) (counted store.old made)).store) }
 {
     let d = sets::dimensions(set);
-    let diagonal = set.diagonal;
-    let constants = set.constants;
     rewriting::rewrite_over(
         d,
-        &diagonal,
-        &constants,
+        &set.diagonal,
+        &set.constants,
         store,
         places as usize,
         before,
@@ -97,6 +91,7 @@ fn rewrite_record(
 }
 
 // A pass over a level: the node over a record's place is rewritten where nothing is refused.
+#[tactic(auto, using(crate::proofs::Records::may_unrefused, crate::proofs::Records::may_inside), unfolding(crate::specs::Passes::rise_of, records::specs::Tests::room_of))]
 pub fn rise_item(set: ParameterSet, store: &mut [u64], tally: Tally, place: u64) -> Tally
     requires { Going set 2 store.old tally 1 }
     ensures { (result ≡ (rise_of set place (pass tally store.old)).tally)
@@ -105,7 +100,7 @@ pub fn rise_item(set: ParameterSet, store: &mut [u64], tally: Tally, place: u64)
     if !may_write(tally, place) {
         return tally;
     }
-    let made = rewrite_record(
+    let count = rewrite_record(
         set,
         store,
         tally.places,
@@ -114,23 +109,29 @@ pub fn rise_item(set: ParameterSet, store: &mut [u64], tally: Tally, place: u64)
         place,
         tally.made,
     );
-    tally::ranked(tally, tally.before, tally.under, made)
+    Tally {
+        made: count,
+        ..tally
+    }
 }
 
 // What a pass does with a record, by its phase.
-pub fn step(set: ParameterSet, buffer: &mut [u64], phase: u64, tally: Tally, item: Record) -> Tally
-    requires { Going set phase buffer.old tally 1 }
-    ensures { (result ≡ (step_of set phase item (pass tally buffer.old)).tally)
-        × (buffer.new ≡ (step_of set phase item (pass tally buffer.old)).buffer) }
+#[tactic(auto, unfolding(crate::specs::Passes::step_of, records::specs::Tests::room_of))]
+pub fn step(
+    set: ParameterSet,
+    buffer: &mut [u64],
+    phase: Phase,
+    tally: Tally,
+    item: Record,
+) -> Tally
+    requires { Going set (phase_number phase) buffer.old tally 1 }
+    ensures { (result ≡ (step_of set (phase_number phase) item (pass tally buffer.old)).tally)
+        × (buffer.new ≡ (step_of set (phase_number phase) item (pass tally buffer.old)).buffer) }
 {
-    if phase == 0 {
-        return test_record(set, buffer, tally, item);
+    match phase {
+        Phase::Test => test_record(set, buffer, tally, item),
+        Phase::Mark => mark_item(set, buffer, tally, item),
+        Phase::Level => rise_item(set, buffer, tally, item.place),
+        Phase::Search(window) => note_record(buffer, window * WINDOW, tally, item.place),
     }
-    if phase == 1 {
-        return mark_item(set, buffer, tally, item);
-    }
-    if phase == 2 {
-        return rise_item(set, buffer, tally, item.place);
-    }
-    note_record(buffer, (phase - 3) * 1048576, tally, item.place)
 }

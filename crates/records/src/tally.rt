@@ -1,6 +1,6 @@
 // What a push has found and made so far.
 ghost use Rattle.std.specs.Prelude.{◌≡◌};
-ghost use Rattle.records.specs.Tests.{empty_tally, ranked};
+ghost use Rattle.records.specs.Tests.{empty_tally};
 
 #[derive(Clone, Copy)]
 pub struct Tally {
@@ -46,17 +46,5 @@ impl Tally {
             under: 0,
             made: 0,
         }
-    }
-}
-
-// The same at the numbers of a level, and with this count.
-pub fn ranked(tally: Tally, before: usize, under: usize, made: u64) -> Tally
-    ensures { result ≡ ranked tally before under made }
-{
-    Tally {
-        before,
-        under,
-        made,
-        ..tally
     }
 }

@@ -1,25 +1,15 @@
 use native.Mathlib.Omega.{arith}
-use Prim.Native.Nat.{◌-◌}
 use Rattle.pushes.proofs.Ranks.{counting_none, counting_ends, counting_more, counting_all}
 use Rattle.pushes.proofs.levels.count.Goals as goal
 
 pub loop-level-init : goal.loop-level-init
 loop-level-init c = counting_none _ _ _ _
 
-pub nonzero_div-nodes : goal.nonzero_div-nodes
-nonzero_div-nodes c = omega (arith, c.requires)
-
 pub returns-then-nodes-most : goal.returns-then-nodes-most
 returns-then-nodes-most c = counting_ends c.loop-level.invariant c.loop-level-test.true c.if-nodes-most.true
-
-pub overflow_add-level : goal.overflow_add-level
-overflow_add-level c = omega (arith, c.loop-level-test.true)
-
-pub loop-level-smaller : goal.loop-level-smaller
-loop-level-smaller c = omega (arith, c.loop-level-test.true)
 
 pub loop-level-preserved : goal.loop-level-preserved
 loop-level-preserved c = counting_more c.loop-level.invariant c.loop-level-test.true (omega (arith, c.if-nodes-most.false))
 
 pub returns : goal.returns
-returns c = counting_all c.loop-level.invariant c.loop-level-test.false
+returns c = omega (arith, counting_all c.loop-level.invariant c.loop-level-test.false)
