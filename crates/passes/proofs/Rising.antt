@@ -106,9 +106,6 @@ module _ (s : ParameterSet) (rs : List Record) (t₀ : Tally) (xs : List ℕ) (G
     low : level < s.height
     low = omega (arith, (some_level t₀ level l).1, G.levels unrefused)
 
-    level_fits : level + 1 < 2 ^ 64
-    level_fits = omega (arith, low, (tree_of.valid_numbers s none).low)
-
     numbers : Numbers s rs t₀ xs level (levels_up_to s rs level (pass t₀ xs)).tally
     numbers = levels_at s rs t₀ xs none (G.places unrefused) (G.before unrefused) (G.under unrefused) level (omega (arith, low))
 
@@ -166,13 +163,6 @@ module _ (s : ParameterSet) (rs : List Record) (t₀ : Tally) (xs : List ℕ) (G
                   step ∙ ap (λ (u : Pass). upwards s (each_of s 2 rs u)) reached.is
                   ∙ ap (λ (n : ℕ). levels_up_to s rs n (pass t₀ xs)) (sym (add-one level));
             }
-
-  pub levels_fit : end < 2 ^ 64
-  levels_fit = go end refl
-    where
-      go : (n : ℕ) → end ≡ n → end < 2 ^ 64
-      go zero e = omega (arith, e)
-      go (suc n) e = let f = level_fits n (omega (arith, e)) in omega (arith, e)
 
   pub levels_end : (level : ℕ) → end ≤ level → (t : Tally) (zs : List ℕ) → Reached s rs t₀ xs level t zs
       → (t ≡ (levels_of s rs (pass t₀ xs)).tally) × (zs ≡ (levels_of s rs (pass t₀ xs)).buffer)

@@ -4,6 +4,7 @@ use mathlib.Core.Bool.{Bool, true, false, cond, not, ◌&&◌, false≢true, tru
 use mathlib.Core.List.{List, [], ◌∷◌, ◌++◌, append_assoc, append-nil}
 use Prim.Native.Nat.{ℕ, zero, suc, ◌+◌, ◌*◌, ◌-◌, ◌^◌, ◌≤◌, ◌<◌}
 use native.Mathlib.Decide.{dec_lt}
+use native.Mathlib.Numerals.{add-one}
 use native.Mathlib.Omega.{arith}
 use lib.Dec.{eqb, ltb}
 use lib.ListN.{replicate}
@@ -226,11 +227,10 @@ wanted_unrefused : (t : Tally) → wanted t ≡ true → t.number ≡ 0
 unfolding wanted is_clear
 wanted_unrefused t e = eqb-true t.number 0 (left_true (eqb t.number 0) (t.placed && t.words) (left_true (is_clear t) (not t.rising && not t.few) e))
 
--- in the course of a search that ends with the phase `end`
-pub record Reached (s : ParameterSet) (rs : List Record) (t₀ : Tally) (phase : ℕ) (t : Tally) : Type 0 where
-  pub begun : 3 ≤ phase
-  pub inside : phase ≤ search_end t₀
-  pub is : t ≡ windows_of s rs (phase - 3) t₀
+-- in the course of a search, after w windows
+pub record Reached (s : ParameterSet) (rs : List Record) (t₀ : Tally) (w : ℕ) (t : Tally) : Type 0 where
+  pub inside : 3 + w ≤ search_end t₀
+  pub is : t ≡ windows_of s rs w t₀
 
 module _ (s : ParameterSet) (rs : List Record) (t₀ : Tally) where
   end_low : (t₀.number ≡ 0 → t₀.places ≤ 2 ^ 32) → (3 ≤ search_end t₀) × (search_end t₀ ≤ 4099)
@@ -245,45 +245,39 @@ module _ (s : ParameterSet) (rs : List Record) (t₀ : Tally) where
     ends : (3 ≤ search_end t₀) × (search_end t₀ ≤ 4099)
     ends = end_low (λ z. subst (λ (m : ℕ). m ≤ 2 ^ 32) (sym (G.places z)) (tree_of.valid_numbers s (G.accepted z)).few)
 
-    pub search_low : search_end t₀ ≤ 4099
-    search_low = ends.1
-
-    pub search_begins : Reached s rs t₀ 3 t₀
+    pub search_begins : Reached s rs t₀ 0 t₀
     unfolding windows_of
-    search_begins = record { begun = omega arith; inside = ends.0; is = refl }
+    search_begins = record { inside = ends.0; is = refl }
 
-    module _ (phase : ℕ) (t : Tally) (reached : Reached s rs t₀ phase t) where
+    module _ (w : ℕ) (t : Tally) (reached : Reached s rs t₀ w t) where
       -- what the next pass asks, and what it leaves
-      pub search_asks : phase < search_end t₀ → Going s phase zeros t n
+      pub search_asks : w < search_end t₀ - 3 → Going s (3 + w) zeros t n
       unfolding room_of
       search_asks l =
-          let f = windows_find_only s rs (phase - 3) t₀ in
-          subst (λ (u : Tally). Going s phase zeros u n) (sym (reached.is ∙ f.1))
+          let f = windows_find_only s rs w t₀ in
+          subst (λ (u : Tally). Going s (3 + w) zeros u n) (sym (reached.is ∙ f.1))
           (record {
             accepted = G.accepted;
-            whole = λ z. G.whole z ∙ sym (ap₂ (λ (a b : Bool). cond a keepable (cond b (store_words s) map_words)) (ne_eqb phase 0 (λ e. absurd (omega (arith, reached.begun)))) (le-ltb phase 3 reached.begun));
+            whole = λ z. G.whole z ∙ sym (ap₂ (λ (a b : Bool). cond a keepable (cond b (store_words s) map_words)) (ne_eqb (3 + w) 0 (λ e. absurd (omega arith))) (le-ltb (3 + w) 3 (omega arith)));
             places = G.places;
-            keeps = λ z. absurd (omega (arith, z, reached.begun));
+            keeps = λ z. absurd (omega arith);
             counts = G.counts;
-            rank = λ z. absurd (omega (arith, z, reached.begun));
+            rank = λ z. absurd (omega arith);
             low = omega (arith, l, ends.1);
           })
 
-      pub search_next : phase < search_end t₀ → (t' : Tally) → t' ≡ (each_of s phase rs (pass t zeros)).tally → Reached s rs t₀ (phase + 1) t'
+      pub search_next : w < search_end t₀ - 3 → (t' : Tally) → t' ≡ (each_of s (3 + w) rs (pass t zeros)).tally → Reached s rs t₀ (w + 1) t'
       unfolding windows_of
       search_next l t' e =
-          let w : phase + 1 - 3 ≡ suc (phase - 3) = omega (arith, reached.begun) in
-          let p : phase ≡ 3 + (phase - 3) = omega (arith, reached.begun) in
           record {
-            begun = omega (arith, reached.begun);
             inside = omega (arith, l);
             is =
-                e ∙ ap (λ (u : Tally). (each_of s phase rs (pass u zeros)).tally) reached.is
-                ∙ ap (λ (m : ℕ). (each_of s m rs (pass (windows_of s rs (phase - 3) t₀) zeros)).tally) p ∙ ap (λ (m : ℕ). windows_of s rs m t₀) (sym w);
+                e ∙ ap (λ (u : Tally). (each_of s (3 + w) rs (pass u zeros)).tally) reached.is
+                ∙ ap (λ (m : ℕ). windows_of s rs m t₀) (sym (add-one w));
           }
 
-      pub search_ends : search_end t₀ ≤ phase → t ≡ search_of s rs t₀
+      pub search_ends : search_end t₀ - 3 ≤ w → t ≡ search_of s rs t₀
       unfolding search_of
       search_ends l =
-          let e : phase ≡ search_end t₀ = omega (arith, l, reached.inside) in
-          reached.is ∙ ap (λ (m : ℕ). windows_of s rs (m - 3) t₀) e
+          let e : w ≡ search_end t₀ - 3 = omega (arith, l, reached.inside) in
+          reached.is ∙ ap (λ (m : ℕ). windows_of s rs m t₀) e

@@ -17,10 +17,6 @@ use Rattle.pushes.specs.Passes.{may_rise, mark_leaf, mark_of, step_of, each_of}
 use Rattle.records.proofs.Listed.{words_part, words_at, listed_count, listed_at}
 use Rattle.pushes.proofs.Records.{mark_tally, goes_on}
 
--- stands where a list has no record
-abbrev pub blank : Record
-blank = record { place = 0; words = [] }
-
 -- after i records of rs, from the tally t₀ and the buffer xs
 pub record Reached (s : ParameterSet) (phase : ℕ) (rs : List Record) (t₀ : Tally) (xs : List ℕ) (i : ℕ) (t : Tally) (zs : List ℕ) : Type 0 where
   pub inside : i ≤ length rs
@@ -45,25 +41,25 @@ module _ (s : ParameterSet) (phase : ℕ) (rs : List Record) (t₀ : Tally) (xs 
       low = reached.going.low;
     }
 
-    pub reached_next : i < length rs → (d : Record) (t' : Tally) (zs' : List ℕ)
-        → (t' ≡ (step_of s phase (get_or rs i d) (pass t zs)).tally) × (zs' ≡ (step_of s phase (get_or rs i d) (pass t zs)).buffer)
+    pub reached_next : i < length rs → (r : Record) → get_or rs i r ≡ r → (t' : Tally) (zs' : List ℕ)
+        → (t' ≡ (step_of s phase r (pass t zs)).tally) × (zs' ≡ (step_of s phase r (pass t zs)).buffer)
         → length zs' ≡ length zs → Reached s phase rs t₀ xs (i + 1) t' zs'
     unfolding each_of
-    reached_next l d t' zs' e same = record {
+    reached_next l r f t' zs' e same = record {
       inside = omega (arith, l);
       long = same ∙ reached.long;
       going = subst (λ (u : Tally). Going s phase zs' u (length rs - (i + 1))) (sym e.0)
-          (goes_on s phase (get_or rs i d) (pass t zs) zs' (length rs - (i + 1)) same (subst (Going s phase zs t) one_more_lem reached.going));
+          (goes_on s phase r (pass t zs) zs' (length rs - (i + 1)) same (subst (Going s phase zs t) one_more_lem reached.going));
       left = ap (each_of s phase (drop (i + 1) rs)) whole_step
-          ∙ ap (λ (k : ℕ). each_of s phase (drop k rs) (step_of s phase (get_or rs i d) (pass t zs))) (add-one i)
-          ∙ sym (ap (λ (qs : List Record). each_of s phase qs (pass t zs)) (drop-cons rs i d l))
+          ∙ ap (λ (k : ℕ). each_of s phase (drop k rs) (step_of s phase r (pass t zs))) (add-one i)
+          ∙ sym (ap (λ (qs : List Record). each_of s phase qs (pass t zs)) (drop-cons rs i r l ∙ ap (λ (q : Record). q ∷ drop (suc i) rs) f))
           ∙ reached.left;
     }
       where
         one_more_lem : length rs - i ≡ suc (length rs - (i + 1))
         one_more_lem = omega (arith, l)
 
-        whole_step : pass t' zs' ≡ step_of s phase (get_or rs i d) (pass t zs)
+        whole_step : pass t' zs' ≡ step_of s phase r (pass t zs)
         whole_step = λ j. record { tally = e.0 j; buffer = e.1 j }
 
     pub reached_all : length rs ≤ i → (t ≡ (each_of s phase rs (pass t₀ xs)).tally) × (zs ≡ (each_of s phase rs (pass t₀ xs)).buffer)
@@ -71,26 +67,6 @@ module _ (s : ParameterSet) (phase : ℕ) (rs : List Record) (t₀ : Tally) (xs 
     reached_all l =
         let e : pass t zs ≡ each_of s phase rs (pass t₀ xs) = sym (ap (λ (qs : List Record). each_of s phase qs (pass t zs)) (drop_of_length-le rs l)) ∙ reached.left in
         (ap (λ (u : Pass). u.tally) e, ap (λ (u : Pass). u.buffer) e)
-
--- ---- over the records of a list of numbers, of which a loop counts a seventh of the length
-
-module _ (s : ParameterSet) (phase : ℕ) (ns : List ℕ) (t₀ : Tally) (xs : List ℕ) where
-  pub listed_none : Going s phase xs t₀ (length ns / 7) → Reached s phase (listed ns) t₀ xs 0 t₀ xs
-  listed_none G = reached_none s phase (listed ns) t₀ xs (subst (Going s phase xs t₀) (sym (listed_count ns)) G)
-
-  module _ (i : ℕ) (t : Tally) (zs : List ℕ) (reached : Reached s phase (listed ns) t₀ xs i t zs) where
-    pub listed_asks : i < length ns / 7 → Going s phase zs t 1
-    listed_asks l = step_asks s phase (listed ns) t₀ xs i t zs reached (omega (arith, l, listed_count ns))
-
-    pub listed_next : i < length ns / 7 → (t' : Tally) (zs' : List ℕ)
-        → (t' ≡ (step_of s phase (record_at ns i) (pass t zs)).tally) × (zs' ≡ (step_of s phase (record_at ns i) (pass t zs)).buffer)
-        → length zs' ≡ length zs → Reached s phase (listed ns) t₀ xs (i + 1) t' zs'
-    listed_next l t' zs' e =
-        reached_next s phase (listed ns) t₀ xs i t zs reached (omega (arith, l, listed_count ns)) blank t' zs'
-        (subst (λ (r : Record). (t' ≡ (step_of s phase r (pass t zs)).tally) × (zs' ≡ (step_of s phase r (pass t zs)).buffer)) (sym (listed_at ns i blank l)) e)
-
-    pub listed_all : length ns / 7 ≤ i → (t ≡ (each_of s phase (listed ns) (pass t₀ xs)).tally) × (zs ≡ (each_of s phase (listed ns) (pass t₀ xs)).buffer)
-    listed_all l = reached_all s phase (listed ns) t₀ xs i t zs reached (omega (arith, l, listed_count ns))
 
 -- ---- leaves and marks
 
@@ -106,13 +82,14 @@ unfolding each_of step_of mark_of
 marks_none s [] t xs e = refl
 marks_none s (r ∷ rs) t xs e = ap (each_of s 1 rs) (rw e refl) ∙ marks_none s rs t xs e
 
--- Where nothing is refused, a leaf is read from the list itself.
+-- Over a list of numbers, where nothing is refused, a leaf is read from the list itself.
 pub marks_next : {s : ParameterSet} (ns : List ℕ) {t : Tally} {xs : List ℕ} {i : ℕ} {zs : List ℕ} → Reached s 1 (listed ns) t xs i t zs → may_rise t ≡ true
     → i < length ns / 7 → (zs' : List ℕ) → zs' ≡ mark_leaf s t.places (get_or ns (i * 7) 0) (take s.node_size (words_part ns i)) zs
     → length zs' ≡ length zs → Reached s 1 (listed ns) t xs (i + 1) t zs'
 unfolding step_of mark_of record_at
 marks_next {s} ns {t} {xs} {i} {zs} reached may l zs' e =
-    listed_next s 1 ns t xs i t zs reached l t zs' (
-      sym (mark_tally s (record_at ns i) (pass t zs)),
+    let r = record_at ns i in
+    reached_next s 1 (listed ns) t xs i t zs reached (omega (arith, l, listed_count ns)) r (listed_at ns i r l) t zs' (
+      sym (mark_tally s r (pass t zs)),
       e ∙ ap (λ (ws : List ℕ). mark_leaf s t.places (get_or ns (i * 7) 0) (take s.node_size ws) zs) (sym (words_at ns i (omega (arith, l)))) ∙ sym (rw may refl),
     )

@@ -1,6 +1,7 @@
-// Records read from a list of numbers, seven for each: a place, then six words.
-ghost use Rattle.std.specs.Prelude.{◌≡◌, ◌+◌, ◌*◌, ◌≤◌, length};
-ghost use Rattle.records.specs.Listed.{record_at};
+// Records in order: a slice of them, or a list of numbers with seven for each, a place, then six words.
+ghost use Rattle.std.specs.Prelude.{◌≡◌, ◌+◌, ◌*◌, ◌≤◌, ◌<◌, List, length, get_or};
+ghost use Rattle.records.specs.declared.record.Record.{Record};
+ghost use Rattle.records.specs.Listed.{record_at, listed};
 
 use crate::record::Record;
 
@@ -21,5 +22,48 @@ pub fn record_at(numbers: &[u64], i: usize) -> Record
     Record {
         place: numbers[at],
         words,
+    }
+}
+
+// What passes go over, wherever the records stand.
+pub trait Records: Copy {
+    ghost list: { Self → List Record };
+
+    fn count(self) -> usize
+        ensures { result ≡ length (list self) };
+
+    // Record i.
+    fn record(self, i: usize) -> Record
+        requires { i < length (list self) }
+        ensures { get_or (list self) i result ≡ result };
+}
+
+impl<'a> Records for &'a [Record] {
+    ghost list = { λ records. records.now };
+
+    fn count(self) -> usize {
+        self.len()
+    }
+
+    fn record(self, i: usize) -> Record {
+        self[i]
+    }
+}
+
+// The records of a list of numbers, of which fewer than seven at its end are none.
+#[derive(Clone, Copy)]
+pub struct Numbers<'a>(pub &'a [u64]);
+
+impl<'a> Records for Numbers<'a> {
+    ghost list = { λ numbers. listed numbers.0.now };
+
+    #[tactic(auto, using(crate::proofs::Listed::listed_count))]
+    fn count(self) -> usize {
+        self.0.len() / 7
+    }
+
+    #[tactic(auto, using(crate::proofs::Listed::listed_count, crate::proofs::Listed::listed_at))]
+    fn record(self, i: usize) -> Record {
+        record_at(self.0, i)
     }
 }

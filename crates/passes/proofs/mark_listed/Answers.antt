@@ -1,11 +1,10 @@
-use mathlib.Core.Path.{sym, ap, ◌∙◌}
-use Prim.Native.Nat.{◌-◌}
+use mathlib.Core.Path.{sym, ap, subst, ◌∙◌}
 use native.Mathlib.Omega.{arith}
 use Rattle.records.specs.Listed.{listed}
-use Rattle.records.specs.Tests.{Pass, room_of}
-use Rattle.records.proofs.Listed.{six_at}
+use Rattle.records.specs.Tests.{Pass, Going, room_of}
+use Rattle.records.proofs.Listed.{six_at, listed_count}
 use Rattle.pushes.proofs.Records.{rise_unrefused}
-use Rattle.passes.proofs.Turns.{listed_none, listed_all, marks_none, marks_next}
+use Rattle.passes.proofs.Turns.{reached_none, reached_all, marks_none, marks_next}
 use Rattle.passes.proofs.mark_listed.Goals as goal
 
 pub returns-then-not-may_rise : goal.returns-then-not-may_rise
@@ -14,7 +13,7 @@ returns-then-not-may_rise c =
     (ap (λ (u : Pass). u.tally) e, ap (λ (u : Pass). u.buffer) e)
 
 pub loop-i-init : goal.loop-i-init
-loop-i-init c = listed_none _ _ _ _ _ c.requires
+loop-i-init c = reached_none _ _ _ _ _ (subst (Going c.args.set 1 c.args.store.now c.args.tally) (sym (listed_count c.args.numbers.now)) c.requires)
 
 pub mark_leaf-requires : goal.mark_leaf-requires
 unfolding room_of
@@ -27,41 +26,5 @@ pub loop-i-preserved : goal.loop-i-preserved
 loop-i-preserved c =
     marks_next c.args.numbers.now c.loop-i.invariant (sym c.may_rise.ensures ∙ c.if-not-may_rise.false) (omega (arith, c.loop-i-test.true)) _ c.mark_leaf.ensures c.mark_leaf.auto.store
 
-pub shape_of-store : goal.shape_of-store
-shape_of-store c = c.loop-i.invariant.long
-
 pub returns : goal.returns
-returns c = listed_all _ _ _ _ _ _ _ _ c.loop-i.invariant (omega (arith, c.loop-i-test.false))
-
-pub overflow_mul-at : goal.overflow_mul-at
-overflow_mul-at c = omega (arith, c.loop-i-test.true)
-
-pub overflow_add-start : goal.overflow_add-start
-overflow_add-start c = omega (arith, c.loop-i-test.true)
-
-pub overflow_add-end : goal.overflow_add-end
-overflow_add-end c = omega (arith, c.loop-i-test.true)
-
-pub offset_bounds-numbers-at : goal.offset_bounds-numbers-at
-offset_bounds-numbers-at c = omega (arith, c.loop-i-test.true)
-
-pub bounds-numbers-at : goal.bounds-numbers-at
-bounds-numbers-at c = omega (arith, c.loop-i-test.true)
-
-pub offset_bounds-numbers-start : goal.offset_bounds-numbers-start
-offset_bounds-numbers-start c = omega (arith, c.loop-i-test.true)
-
-pub slice_bounds-mark_leaf-count : goal.slice_bounds-mark_leaf-count
-slice_bounds-mark_leaf-count c = omega (arith, c.loop-i-test.true)
-
-pub slice_bounds-mark_leaf-start : goal.slice_bounds-mark_leaf-start
-slice_bounds-mark_leaf-start c = omega (arith, c.loop-i-test.true)
-
-pub slice_bounds-mark_leaf-end : goal.slice_bounds-mark_leaf-end
-slice_bounds-mark_leaf-end c = omega (arith, c.loop-i-test.true)
-
-pub overflow_add-i : goal.overflow_add-i
-overflow_add-i c = omega arith
-
-pub loop-i-smaller : goal.loop-i-smaller
-loop-i-smaller c = omega arith
+returns c = reached_all _ _ _ _ _ _ _ _ c.loop-i.invariant (omega (arith, c.loop-i-test.false, listed_count c.args.numbers.now))

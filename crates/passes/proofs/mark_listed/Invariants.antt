@@ -1,11 +1,7 @@
 -- The loop keeps what that of `each` keeps by this phase, over the records of the list; the tally stays.
-use Prim.Native.Nat.{◌-◌}
 use Rattle.records.specs.Listed.{listed}
 use Rattle.passes.proofs.Turns.{Reached}
 use Rattle.passes.proofs.mark_listed.Given as goal
 
 abbrev pub invariant-loop-i : goal.invariant-loop-i
 invariant-loop-i l = Reached l.set 1 (listed l.numbers) l.tally l.initial.store l.i l.tally l.store
-
-abbrev pub decreases-loop-i : goal.decreases-loop-i
-decreases-loop-i l = l.count - l.i

@@ -1,10 +1,6 @@
--- What the loop keeps of the records (Searching).
-use Prim.Native.Nat.{◌-◌}
+-- What the search keeps of the records (Searching).
 use Rattle.passes.proofs.Searching.{Reached}
 use Rattle.passes.proofs.search.Given as goal
 
-abbrev pub invariant-loop-phase : goal.invariant-loop-phase
-invariant-loop-phase l = Reached l.set l.records l.initial.sum l.phase l.sum
-
-abbrev pub decreases-loop-phase : goal.decreases-loop-phase
-decreases-loop-phase l = l.end - l.phase
+abbrev pub invariant-loop-window : goal.invariant-loop-window
+invariant-loop-window g l = Reached l.set (g.R.Records.list l.records) l.initial.sum l.window l.sum
