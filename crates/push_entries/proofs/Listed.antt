@@ -91,20 +91,20 @@ module _ (s : ParameterSet) (xs ns : List ℕ) where
       record_bytes : length rs * 56 < 2 ^ 63
       record_bytes = omega (arith, bytes, listed_count ns)
 
-      pub test_asks : Going s 0 (replicate keepable 0) b (length ns / 7)
-      test_asks = subst (Going s 0 (replicate keepable 0) b) (listed_count ns) (course.test_asks s xs rs record_bytes b begun_is)
+      pub test_asks : Going s 0 (replicate keepable 0) b (length rs)
+      test_asks = course.test_asks s xs rs record_bytes b begun_is
 
       module _ (t : Tally) (e : t ≡ (each_of s 0 rs (pass b (replicate keepable 0))).tally) where
-        pub search_asks : Going s 3 (replicate map_words 0) t (length ns / 7)
-        search_asks = subst (Going s 3 (replicate map_words 0) t) (listed_count ns) (course.search_asks s xs rs record_bytes b begun_is t e)
+        pub search_asks : Going s 3 (replicate map_words 0) t (length rs)
+        search_asks = course.search_asks s xs rs record_bytes b begun_is t e
 
         module _ (u : Tally) (f : u ≡ search_of s rs t) where
           pub mark_asks : Going s 1 xs u (length ns / 7)
           mark_asks = subst (Going s 1 xs u) (listed_count ns) (course.mark_asks s xs rs record_bytes b begun_is t e u f)
 
           module _ (v : Tally) (ys : List ℕ) (g : (v ≡ (each_of s 1 rs (pass u xs)).tally) × (ys ≡ (each_of s 1 rs (pass u xs)).buffer)) (same : length ys ≡ length xs) where
-            pub rise_asks : Rising s ys v (length ns / 7)
-            rise_asks = subst (Rising s ys v) (listed_count ns) (course.rise_asks s xs rs record_bytes b begun_is t e u f v ys g same)
+            pub rise_asks : Rising s ys v (length rs)
+            rise_asks = course.rise_asks s xs rs record_bytes b begun_is t e u f v ys g same
 
             module _ (w : Tally) (zs : List ℕ) (h : (w ≡ (levels_of s rs (pass v ys)).tally) × (zs ≡ (levels_of s rs (pass v ys)).buffer)) (long : length zs ≡ length ys) where
               pub sweep_asks : Sweeping s zs w

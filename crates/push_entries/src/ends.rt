@@ -15,19 +15,8 @@ fn refused(number: u8) -> Tally
     ensures { result ≡ record { number = number; places = 0; placed = true; words = true; distinct = true; rising = true; above = 0; few = false; kept = 0; levels = 0; before = 0; under = 0; made = 0 } }
 {
     Tally {
-        number: number,
-        places: 0,
-        placed: true,
-        words: true,
-        distinct: true,
-        rising: true,
-        above: 0,
-        few: false,
-        kept: 0,
-        levels: 0,
-        before: 0,
-        under: 0,
-        made: 0,
+        number,
+        ..Tally::empty()
     }
 }
 
@@ -49,19 +38,12 @@ pub fn begin(set: ParameterSet, store: &[u64], count: usize) -> Tally
     let d = sets::dimensions(set);
     let places = sets::places(set) as u64;
     Tally {
-        number: 0,
-        places: places,
-        placed: true,
+        places,
         words: parameters::all_words(store),
-        distinct: true,
-        rising: true,
-        above: 0,
         few: count <= 128,
-        kept: 0,
         levels: levels::count(d.arity as u64, set.height, places, count as u64 * 8),
-        before: 0,
         under: d.arity,
-        made: 0,
+        ..Tally::empty()
     }
 }
 

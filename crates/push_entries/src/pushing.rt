@@ -7,8 +7,9 @@ ghost use Rattle.push_entries.specs.Listed.{listed_reply, listed_pushed};
 use crate::ends;
 use change_entries::Changed;
 use parameters::ParameterSet;
-use pushes::levels;
+use pushes::{Phase, levels};
 use records::Record;
+use records::listing::Numbers;
 
 // All records are tested and a place that stands twice is searched; then all leaves are written, the nodes above them marked, and the marked
 // nodes rewritten level by level; or nothing is written. The places that are compared are kept in an array.
@@ -18,9 +19,9 @@ pub fn push(set: ParameterSet, store: &mut [u64], records: &[Record]) -> Changed
 {
     let begun = ends::begin(set, store, records.len());
     let mut seen = [0u64; 128];
-    let tested = passes::each(set, &mut seen, records, passes::TEST, begun);
+    let tested = passes::each(set, &mut seen, records, Phase::Test, begun);
     let searched = passes::search(set, records, tested);
-    let marked = passes::each(set, store, records, passes::MARK, searched);
+    let marked = passes::each(set, store, records, Phase::Mark, searched);
     let risen = passes::rise(set, store, records, marked);
     let swept = levels::sweep(set, store, risen);
     ends::finish(swept)
@@ -39,10 +40,11 @@ pub fn push_listed(set: ParameterSet, store: &mut [u64], numbers: &[u64]) -> Cha
         return Changed::Refused(begun.number);
     }
     let mut seen = [0u64; 128];
-    let tested = passes::test_listed(set, &mut seen, numbers, begun);
-    let searched = passes::search_listed(set, numbers, tested);
+    let records = Numbers(numbers);
+    let tested = passes::each(set, &mut seen, records, Phase::Test, begun);
+    let searched = passes::search(set, records, tested);
     let marked = passes::mark_listed(set, store, numbers, searched);
-    let risen = passes::rise_listed(set, store, numbers, marked);
+    let risen = passes::rise(set, store, records, marked);
     let swept = levels::sweep(set, store, risen);
     ends::finish(swept)
 }

@@ -48,6 +48,7 @@ returns c =
     let none = sym c.refusal_of-number.ensures ∙ c.if-number-ne0.false in
     let k = ap (λ (x : Dimensions). x.arity) c.dimensions-d.ensures in
     let p = c.places-places.ensures in
-    begin_clear _ _ _ _ _ _ _ p c.all_words.ensures
+    rw c.empty.ensures
+    (begin_clear _ _ _ _ _ _ _ p c.all_words.ensures
     (c.count.ensures ∙ (λ i. levels_by (k i) c.args.set.height (p i) (c.args.count * 8))) k
-    (early_none _ _ _ none (both_good _ _ (eq-eqb _ _ (c.if-store-store_words.false ∙ c.store_words.ensures)) (le-leb _ _ c.if-count-gt4294967296.false)))
+    (early_none _ _ _ none (both_good _ _ (eq-eqb _ _ (c.if-store-store_words.false ∙ c.store_words.ensures)) (le-leb _ _ c.if-count-gt4294967296.false))))

@@ -15,33 +15,33 @@ unfolding changed_reply
 returns-then-begun-ne0 c =
     early_is_refused _ _ _ _ c.begin-begun.ensures c.if-numbers-ne0.false c.if-begun-ne0.true
 
-pub slice_bounds-test_listed-end : goal.slice_bounds-test_listed-end
-slice_bounds-test_listed-end c = sym (length-replicate {A = ℕ} 128 0)
+pub slice_bounds-each-end : goal.slice_bounds-each-end
+slice_bounds-each-end c = sym (length-replicate {A = ℕ} 128 0)
 
-pub test_listed-tested-requires : goal.test_listed-tested-requires
-test_listed-tested-requires c =
+pub each-tested-requires : goal.each-tested-requires
+each-tested-requires c =
     test_asks _ _ c.args.numbers.now _ c.begin-begun.ensures c.well_formed.1.1.0.1
 
-pub search_listed-searched-requires : goal.search_listed-searched-requires
-search_listed-searched-requires c =
-    search_asks _ _ c.args.numbers.now _ c.begin-begun.ensures c.well_formed.1.1.0.1 _ c.test_listed-tested.ensures.0
+pub search-searched-requires : goal.search-searched-requires
+search-searched-requires c =
+    search_asks _ _ c.args.numbers.now _ c.begin-begun.ensures c.well_formed.1.1.0.1 _ c.each-tested.ensures.0
 
 pub mark_listed-marked-requires : goal.mark_listed-marked-requires
 mark_listed-marked-requires c =
-    mark_asks _ _ c.args.numbers.now _ c.begin-begun.ensures c.well_formed.1.1.0.1 _ c.test_listed-tested.ensures.0 _ c.search_listed-searched.ensures
+    mark_asks _ _ c.args.numbers.now _ c.begin-begun.ensures c.well_formed.1.1.0.1 _ c.each-tested.ensures.0 _ c.search-searched.ensures
 
-pub rise_listed-risen-requires : goal.rise_listed-risen-requires
-rise_listed-risen-requires c =
-    rise_asks _ _ c.args.numbers.now _ c.begin-begun.ensures c.well_formed.1.1.0.1 _ c.test_listed-tested.ensures.0 _ c.search_listed-searched.ensures
+pub rise-risen-requires : goal.rise-risen-requires
+rise-risen-requires c =
+    rise_asks _ _ c.args.numbers.now _ c.begin-begun.ensures c.well_formed.1.1.0.1 _ c.each-tested.ensures.0 _ c.search-searched.ensures
     _ _ c.mark_listed-marked.ensures c.mark_listed-marked.auto.store
 
 pub sweep-swept-requires : goal.sweep-swept-requires
 sweep-swept-requires c =
-    sweep_asks _ _ c.args.numbers.now _ c.begin-begun.ensures c.well_formed.1.1.0.1 _ c.test_listed-tested.ensures.0 _ c.search_listed-searched.ensures
-    _ _ c.mark_listed-marked.ensures c.mark_listed-marked.auto.store _ _ c.rise_listed-risen.ensures c.rise_listed-risen.auto.store
+    sweep_asks _ _ c.args.numbers.now _ c.begin-begun.ensures c.well_formed.1.1.0.1 _ c.each-tested.ensures.0 _ c.search-searched.ensures
+    _ _ c.mark_listed-marked.ensures c.mark_listed-marked.auto.store _ _ c.rise-risen.ensures c.rise-risen.auto.store
 
 pub returns : goal.returns
 returns c =
-    whole_is_pushed _ _ c.args.numbers.now _ c.begin-begun.ensures c.well_formed.1.1.0.1 _ c.test_listed-tested.ensures.0 _ c.search_listed-searched.ensures
-    _ _ c.mark_listed-marked.ensures c.mark_listed-marked.auto.store _ _ c.rise_listed-risen.ensures c.rise_listed-risen.auto.store
+    whole_is_pushed _ _ c.args.numbers.now _ c.begin-begun.ensures c.well_formed.1.1.0.1 _ c.each-tested.ensures.0 _ c.search-searched.ensures
+    _ _ c.mark_listed-marked.ensures c.mark_listed-marked.auto.store _ _ c.rise-risen.ensures c.rise-risen.auto.store
     c.if-numbers-ne0.false _ _ c.sweep-swept.ensures _ c.finish.ensures
