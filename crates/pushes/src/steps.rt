@@ -35,6 +35,7 @@ pub fn may_rise(tally: Tally) -> bool
 }
 
 // A record's leaf, the first of its six words, is written if its place is there, and the nodes above it are marked.
+#[tactic(auto, unfolding(crate::specs::Passes::mark_leaf))]
 pub fn mark_leaf(set: ParameterSet, store: &mut [u64], places: u64, place: u64, words: &[u64])
     requires { (first_refusal (set_refusals set) ≡ 0) × (length store.old ≡ store_words set) × (places ≡ leaf_count set) × (length words.now ≡ 6) }
     ensures { store.new ≡ mark_leaf set places place (take set.node_size words.now) store.old }

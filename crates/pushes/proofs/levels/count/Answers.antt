@@ -1,9 +1,6 @@
 use native.Mathlib.Omega.{arith}
-use Rattle.pushes.proofs.Ranks.{counting_none, counting_ends, counting_more, counting_all}
+use Rattle.pushes.proofs.Ranks.{counting_ends, counting_more, counting_all}
 use Rattle.pushes.proofs.levels.count.Goals as goal
-
-pub loop-level-init : goal.loop-level-init
-loop-level-init c = counting_none _ _ _ _
 
 pub returns-then-nodes-most : goal.returns-then-nodes-most
 returns-then-nodes-most c = counting_ends c.loop-level.invariant c.loop-level-test.true c.if-nodes-most.true

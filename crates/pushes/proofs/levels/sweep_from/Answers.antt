@@ -4,7 +4,3 @@ use Rattle.pushes.proofs.levels.sweep_from.Goals as goal
 pub sweep-requires : goal.sweep-requires
 sweep-requires c =
     rw c.dimensions-d.ensures (tree_of.valid_set _ c.requires.0, c.requires.1, c.requires.2, c.requires.3, c.requires.4)
-
-pub returns : goal.returns
-returns c =
-    (rw c.dimensions-d.ensures at c.sweep.ensures.1, rw c.dimensions-d.ensures at c.sweep.ensures.0)

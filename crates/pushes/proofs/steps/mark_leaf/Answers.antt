@@ -1,16 +1,12 @@
-use mathlib.Core.Path.{refl, sym, ◌∙◌}
+use mathlib.Core.Path.{sym, ◌∙◌}
 use native.Mathlib.Omega.{arith}
 use lib.Seq.{length-take-le}
-use borrow.Author.Tests.{lt-ltb, le-ltb}
+use borrow.Author.Tests.{lt-ltb}
 use Rattle.trees.proofs.SetTrees as tree_of
 use Rattle.trees.specs.SetTrees.{dimensions_of}
 use Rattle.pushes.specs.Passes.{mark_leaf}
 use Rattle.records.proofs.Changes.{leaf_in_record}
 use Rattle.pushes.proofs.steps.mark_leaf.Goals as goal
-
-pub returns-then-places-place : goal.returns-then-places-place
-unfolding mark_leaf
-returns-then-places-place c = rw (le-ltb c.args.place c.args.places c.if-places-place.true) refl
 
 pub slice_bounds-write_leaf-end : goal.slice_bounds-write_leaf-end
 slice_bounds-write_leaf-end c =
