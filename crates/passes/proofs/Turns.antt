@@ -2,19 +2,20 @@
 use mathlib.Core.Path.{◌≡◌, refl, sym, ap, subst, ◌∙◌}
 use mathlib.Core.Bool.{true, false}
 use mathlib.Core.List.{List, [], ◌∷◌}
-use Prim.Native.Nat.{ℕ, suc, ◌+◌, ◌*◌, ◌-◌, ◌/◌, ◌≤◌, ◌<◌}
+use Prim.Native.Nat.{ℕ, zero, suc, ◌+◌, ◌*◌, ◌-◌, ◌/◌, ◌≤◌, ◌<◌}
 use native.Mathlib.Nat.{sub-zero}
 use native.Mathlib.Numerals.{add-one}
 use native.Mathlib.Omega.{arith}
 use lib.ListN.{length, get_or, take, drop, drop_of_length-le}
-use lib.Seq.{drop-cons}
+use lib.Seq.{drop-cons, get_or-drop, drop-drop}
+use Rattle.std.specs.Simd.{first_chunks}
 use Rattle.parameters.specs.declared.ParameterSet.{ParameterSet}
 use Rattle.records.specs.declared.record.Record.{Record}
 use Rattle.records.specs.declared.tally.Tally.{Tally}
 use Rattle.records.specs.Listed.{record_at, listed}
 use Rattle.records.specs.Tests.{Pass, pass, Going}
 use Rattle.pushes.specs.Passes.{may_rise, mark_leaf, mark_of, step_of, each_of}
-use Rattle.records.proofs.Listed.{words_part, words_at, listed_count, listed_at}
+use Rattle.records.proofs.Listed.{words_part, six_at, words_at, listed_count, listed_at}
 use Rattle.pushes.proofs.Records.{mark_tally, goes_on}
 
 -- after i records of rs, from the tally t₀ and the buffer xs
@@ -82,14 +83,54 @@ unfolding each_of step_of mark_of
 marks_none s [] t xs e = refl
 marks_none s (r ∷ rs) t xs e = ap (each_of s 1 rs) (rw e refl) ∙ marks_none s rs t xs e
 
--- Over a list of numbers, where nothing is refused, a leaf is read from the list itself.
-pub marks_next : {s : ParameterSet} (ns : List ℕ) {t : Tally} {xs : List ℕ} {i : ℕ} {zs : List ℕ} → Reached s 1 (listed ns) t xs i t zs → may_rise t ≡ true
-    → i < length ns / 7 → (zs' : List ℕ) → zs' ≡ mark_leaf s t.places (get_or ns (i * 7) 0) (take s.node_size (words_part ns i)) zs
-    → length zs' ≡ length zs → Reached s 1 (listed ns) t xs (i + 1) t zs'
-unfolding step_of mark_of record_at
-marks_next {s} ns {t} {xs} {i} {zs} reached may l zs' e =
-    let r = record_at ns i in
-    reached_next s 1 (listed ns) t xs i t zs reached (omega (arith, l, listed_count ns)) r (listed_at ns i r l) t zs' (
-      sym (mark_tally s r (pass t zs)),
-      e ∙ ap (λ (ws : List ℕ). mark_leaf s t.places (get_or ns (i * 7) 0) (take s.node_size ws) zs) (sym (words_at ns i (omega (arith, l)))) ∙ sym (rw may refl),
-    )
+-- ---- the records of a list of numbers, seven for each
+
+chunk_at : (n i : ℕ) (ns : List ℕ) → i < n → get_or (first_chunks 7 n ns) i [] ≡ take 7 (drop (i * 7) ns)
+chunk_at zero i ns l = absurd (omega (arith, l))
+chunk_at (suc n) zero ns l = let e : zero * 7 ≡ 0 = omega arith in ap (λ (m : ℕ). take 7 (drop m ns)) (sym e)
+chunk_at (suc n) (suc i) ns l =
+    let e : 7 + i * 7 ≡ suc i * 7 = omega arith in
+    chunk_at n i (drop 7 ns) (omega (arith, l)) ∙ ap (take 7) (drop-drop (i * 7) 7 ns ∙ ap (λ (m : ℕ). drop m ns) e)
+
+first_of : (ys : List ℕ) → get_or (take 7 ys) 0 0 ≡ get_or ys 0 0
+first_of [] = refl
+first_of (y ∷ ys) = refl
+
+take_twice : (n : ℕ) (ys : List ℕ) → take n (take n ys) ≡ take n ys
+take_twice zero ys = refl
+take_twice (suc n) [] = refl
+take_twice (suc n) (y ∷ ys) = ap (λ (zs : List ℕ). y ∷ zs) (take_twice n ys)
+
+rest_of : (ys : List ℕ) → take 6 (drop 1 (take 7 ys)) ≡ take 6 (drop 1 ys)
+rest_of [] = refl
+rest_of (y ∷ ys) = take_twice 6 ys
+
+module _ (ns : List ℕ) (i : ℕ) (l : i < length ns / 7) {part : List ℕ} (is : part ≡ get_or (first_chunks 7 (length ns / 7) ns) i []) where
+  part_is : part ≡ take 7 (drop (i * 7) ns)
+  part_is = is ∙ chunk_at (length ns / 7) i ns l
+
+  place_of : get_or part 0 0 ≡ get_or ns (i * 7) 0
+  place_of =
+      let e : i * 7 + 0 ≡ i * 7 = omega arith in
+      ap (λ (ys : List ℕ). get_or ys 0 0) part_is ∙ first_of (drop (i * 7) ns) ∙ get_or-drop (i * 7) ns 0 0 ∙ ap (λ (m : ℕ). get_or ns m 0) e
+
+  words_of : take 6 (drop 1 part) ≡ words_part ns i
+  words_of =
+      let e : 6 ≡ i * 7 + 7 - (i * 7 + 1) = omega arith in
+      ap (λ (ys : List ℕ). take 6 (drop 1 ys)) part_is ∙ rest_of (drop (i * 7) ns) ∙ ap (take 6) (drop-drop 1 (i * 7) ns)
+      ∙ ap (λ (m : ℕ). take m (drop (i * 7 + 1) ns)) e
+
+  pub six_of : length (take 6 (drop 1 part)) ≡ 6
+  six_of = ap length words_of ∙ six_at ns i (omega (arith, l))
+
+  -- Where nothing is refused, a leaf is read from the list itself.
+  pub marks_next : {s : ParameterSet} {t : Tally} {xs zs : List ℕ} → Reached s 1 (listed ns) t xs i t zs → may_rise t ≡ true → (zs' : List ℕ)
+      → zs' ≡ mark_leaf s t.places (get_or part 0 0) (take s.node_size (take 6 (drop 1 part))) zs → length zs' ≡ length zs → Reached s 1 (listed ns) t xs (i + 1) t zs'
+  unfolding step_of mark_of record_at
+  marks_next {s} {t} {xs} {zs} reached may zs' e =
+      let r = record_at ns i in
+      let words = words_of ∙ sym (words_at ns i (omega (arith, l))) in
+      reached_next s 1 (listed ns) t xs i t zs reached (omega (arith, l, listed_count ns)) r (listed_at ns i r l) t zs' (
+        sym (mark_tally s r (pass t zs)),
+        e ∙ (λ j. mark_leaf s t.places (place_of j) (take s.node_size (words j)) zs) ∙ sym (rw may refl),
+      )

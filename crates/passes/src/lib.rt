@@ -71,11 +71,9 @@ pub fn mark_listed(set: ParameterSet, store: &mut [u64], numbers: &[u64], tally:
     if !steps::may_rise(tally) {
         return tally;
     }
-    for i in 0..numbers.len() / 7 {
-        let at = i * 7;
-        let start = at + 1;
-        let end = at + 7;
-        steps::mark_leaf(set, store, tally.places, numbers[at], &numbers[start..end]);
+    let (parts, _) = numbers.as_chunks::<7>();
+    for part in parts {
+        steps::mark_leaf(set, store, tally.places, part[0], &part[1..]);
     }
     tally
 }
