@@ -1,2 +1,3 @@
 -- Refusals and what an entry replies.
 pub mod Table
+pub mod Answers
