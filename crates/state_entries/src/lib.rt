@@ -6,5 +6,5 @@ pub mod sets;
 pub mod states;
 
 pub use outcome::Outcome;
-pub use sets::{refusal_of, validate};
+pub use sets::{check, refusal_of, validate};
 pub use states::{compress, permute, unpermute};
