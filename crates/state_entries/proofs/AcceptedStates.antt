@@ -1,16 +1,15 @@
 -- A set and a state that are not refused.
 use mathlib.Core.Path.{◌≡◌}
-use mathlib.Core.Logic.{◌≢◌}
 use mathlib.Core.Bool.{not, true, ◌&&◌}
-use mathlib.Core.List.{List, [], ◌∷◌}
+use mathlib.Core.List.{List}
 use Prim.Native.Nat.{ℕ, ◌+◌, ◌*◌, ◌/◌, ◌≤◌}
 use lib.Dec.{eqb}
 use lib.ListN.{length, take}
 use borrow.Author.Tests.{eqb-true, not-false}
 use Rattle.modular.specs.Arithmetic.{all_words}
 use Rattle.modular.proofs.Words.{left_true, right_true}
-use Rattle.refusals.specs.Table.{refusal, not_words, first_refusal}
-use Rattle.refusals.proofs.Table.{Numbered, first_front}
+use Rattle.refusals.specs.Table.{first_refusal}
+use Rattle.refusals.proofs.Table.{Numbered}
 use Rattle.poseidon2.specs.Inverse.{inverses, total_inverse}
 use Rattle.poseidon2.specs.Statements.{Width, Words, AcceptedDiagonal}
 use Rattle.parameters.specs.declared.ParameterSet.{ParameterSet}
@@ -33,11 +32,6 @@ pub record Accepted (s : ParameterSet) (xs : List ℕ) : Type 0 where
   pub total : s.total_inverse ≡ total_inverse (prime_of s) (take s.width s.diagonal)
   pub long : length xs ≡ s.width
   pub words : all_words (prime_of s) xs ≡ true
-
--- the set's refusals, 18 among them, come before those of the state
-pub set_first : (s : ParameterSet) (xs : List ℕ) → first_refusal (set_refusals s) ≢ 0 → first_refusal (state_refusals s xs) ≡ first_refusal (set_refusals s)
-unfolding state_refusals
-set_first s xs o = first_front (set_refusals s) (refusal 10 (not (eqb (length xs) s.width)) ∷ not_words (prime_of s) xs ∷ []) o
 
 pub state_numbered : (s : ParameterSet) (xs : List ℕ) → Numbered (state_refusals s xs)
 unfolding state_refusals

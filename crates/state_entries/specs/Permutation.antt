@@ -1,18 +1,16 @@
 -- What the entries of the permutation reply and leave, for any set and any numbers (Rules 3, 4.1, 7.2, 8.8).
 use Rattle.std.specs.Prelude.{not, ◌&&◌, List, [], ◌∷◌, ◌++◌, ℕ, ◌/◌, eqb, length}
-use Rattle.refusals.specs.Table.{Refusal, refusal, not_words, Reply, refused, done, reply, after}
+use Rattle.refusals.specs.Table.{Refusal, refusal, not_words, Reply, reply, after}
+use Rattle.refusals.specs.Answers.{Answer, reply_by}
 use Rattle.parameters.specs.declared.ParameterSet.{ParameterSet}
 use Rattle.parameters.specs.ParameterSet.{prime_of, set_refusals}
 use Rattle.poseidon2.specs.Rounds.{permute}
 use Rattle.poseidon2.specs.Inverse.{unpermute}
 use Rattle.poseidon2.specs.Compression.{compress}
-use Rattle.state_entries.specs.declared.outcome.Outcome.{Outcome}
-use Rattle.state_entries.specs.declared.outcome.Outcome.TheVariants.{Done, Refused}
 
--- The reply that each case of the outcome is: the work's result is in a buffer (Rules 8.5).
-unfoldable pub outcome_reply : Outcome → Reply
-outcome_reply Done = done []
-outcome_reply (Refused n) = refused n
+-- The reply of an entry whose result is in a buffer (Rules 8.5).
+abbrev pub outcome_reply : Answer Unit → Reply
+outcome_reply = reply_by (λ _. [])
 
 -- The permutation, its inverse and the compression under a set.
 unfoldable pub permute_under : ParameterSet → List ℕ → List ℕ

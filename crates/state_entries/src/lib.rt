@@ -1,10 +1,8 @@
 // The entries of parameter sets and of the permutation.
 #![tactic(auto)]
 
-pub mod outcome;
 pub mod sets;
 pub mod states;
 
-pub use outcome::Outcome;
 pub use sets::{check, refusal_of, validate};
 pub use states::{compress, permute, unpermute};

@@ -1,54 +1,46 @@
 // The permutation, its inverse and the compression, under a set that is handed in.
 ghost use Rattle.std.specs.Prelude.{◌≡◌};
 ghost use Rattle.refusals.specs.Table.{first_refusal};
+ghost use Rattle.refusals.specs.Answers.{refusal_number};
 ghost use Rattle.state_entries.specs.Permutation.{outcome_reply, state_refusals, state_reply, permuted, unpermuted, compress_refusals, compress_reply, compressed};
 
-use crate::outcome::Outcome;
 use crate::sets;
 use parameters::ParameterSet;
+use refusals::Refusal;
 
-// The number of the first refusal of a set and a state, or 0.
-fn refusal_of_state(set: ParameterSet, state: &[u64]) -> u8
-    ensures { result ≡ first_refusal (state_refusals set state.now) }
+// Whether a set and a state are accepted, or their first refusal.
+fn check_state(set: ParameterSet, state: &[u64]) -> Result<(), Refusal>
+    ensures { refusal_number result ≡ first_refusal (state_refusals set state.now) }
 {
-    let number = sets::refusal_of(set);
-    if number != 0 {
-        return number;
-    }
+    sets::check(set)?;
     if state.len() as u64 != set.width {
-        return 10;
+        return Err(Refusal::BadLength);
     }
     if !parameters::all_words(state) {
-        return 12;
+        return Err(Refusal::NotAWord);
     }
-    0
+    Ok(())
 }
 
 // The permutation of a state of t numbers, in place.
-pub fn permute(set: ParameterSet, state: &mut [u64]) -> Outcome
+pub fn permute(set: ParameterSet, state: &mut [u64]) -> Result<(), Refusal>
     ensures { (outcome_reply result ≡ state_reply set state.old) × (state.new ≡ permuted set state.old) }
 {
-    let number = refusal_of_state(set, state);
-    if number != 0 {
-        return Outcome::Refused(number);
-    }
+    check_state(set, state)?;
     let width = set.width as usize;
     let half = (set.full_rounds / 2) as usize;
     let partial_rounds = set.partial_rounds as usize;
     let diagonal = set.diagonal;
     let constants = set.constants;
     permutations::permute(width, half, partial_rounds, &diagonal, &constants, state);
-    Outcome::Done
+    Ok(())
 }
 
 // The state whose permutation is given, in place.
-pub fn unpermute(set: ParameterSet, state: &mut [u64]) -> Outcome
+pub fn unpermute(set: ParameterSet, state: &mut [u64]) -> Result<(), Refusal>
     ensures { (outcome_reply result ≡ state_reply set state.old) × (state.new ≡ unpermuted set state.old) }
 {
-    let number = refusal_of_state(set, state);
-    if number != 0 {
-        return Outcome::Refused(number);
-    }
+    check_state(set, state)?;
     let width = set.width as usize;
     let half = (set.full_rounds / 2) as usize;
     let partial_rounds = set.partial_rounds as usize;
@@ -63,38 +55,32 @@ pub fn unpermute(set: ParameterSet, state: &mut [u64]) -> Outcome
         &constants,
         state,
     );
-    Outcome::Done
+    Ok(())
 }
 
-// The number of the first refusal of a set, a state and a node to be written, or 0.
-fn refusal_of_compression(set: ParameterSet, state: &[u64], node: &[u64]) -> u8
-    ensures { result ≡ first_refusal (compress_refusals set state.now node.now) }
+// Whether a set, a state and a node to be written are accepted, or their first refusal.
+fn check_compression(set: ParameterSet, state: &[u64], node: &[u64]) -> Result<(), Refusal>
+    ensures { refusal_number result ≡ first_refusal (compress_refusals set state.now node.now) }
 {
-    let number = sets::refusal_of(set);
-    if number != 0 {
-        return number;
-    }
+    sets::check(set)?;
     if state.len() as u64 != set.width {
-        return 10;
+        return Err(Refusal::BadLength);
     }
     if node.len() as u64 != set.node_size {
-        return 10;
+        return Err(Refusal::BadLength);
     }
     if !parameters::all_words(state) {
-        return 12;
+        return Err(Refusal::NotAWord);
     }
-    0
+    Ok(())
 }
 
 // The compression of a state of t numbers to a node of l.
-pub fn compress(set: ParameterSet, state: &[u64], node: &mut [u64]) -> Outcome
+pub fn compress(set: ParameterSet, state: &[u64], node: &mut [u64]) -> Result<(), Refusal>
     ensures { (outcome_reply result ≡ compress_reply set state.now node.old)
         × (node.new ≡ compressed set state.now node.old) }
 {
-    let number = refusal_of_compression(set, state, node);
-    if number != 0 {
-        return Outcome::Refused(number);
-    }
+    check_compression(set, state, node)?;
     let width = set.width as usize;
     let node_size = set.node_size as usize;
     let half = (set.full_rounds / 2) as usize;
@@ -111,5 +97,5 @@ pub fn compress(set: ParameterSet, state: &[u64], node: &mut [u64]) -> Outcome
         state,
         node,
     );
-    Outcome::Done
+    Ok(())
 }

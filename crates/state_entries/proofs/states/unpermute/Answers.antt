@@ -5,23 +5,24 @@ use lib.ListN.{length}
 use borrow.Author.Rules.{rules}
 use Rattle.fields.proofs.Prime.{positive, prime_field}
 use Rattle.poseidon2.proofs.Rounds.{claims}
-use Rattle.refusals.proofs.Table.{refused_equations, done_equations, left_as}
+use Rattle.refusals.proofs.Table.{done_equations, left_as}
+use Rattle.refusals.proofs.Answers.{refusal_returned}
 use Rattle.parameters.specs.ParameterSet.{prime_of}
 use Rattle.parameters.specs.declared.ParameterSet.{ParameterSet}
 use Rattle.inversion.specs.Kept.{unpermute_by}
 use Rattle.inversion.proofs.Kept.{own}
-use Rattle.state_entries.specs.Permutation.{outcome_reply, state_refusals, state_reply, unpermute_under, unpermuted}
+use Rattle.state_entries.specs.Permutation.{state_refusals, state_reply, unpermute_under, unpermuted}
 use Rattle.parameters.proofs.AcceptedSets.{state_of, used_at}
 use Rattle.state_entries.proofs.AcceptedStates.{Accepted, accepted, state_numbered}
 use Rattle.state_entries.proofs.states.unpermute.Goals as goal
-use Rattle.state_entries.proofs.states.unpermute.Goals.{After-struct_known-1, Else-number-ne0}
+use Rattle.state_entries.proofs.states.unpermute.Goals.{After-struct_known-1, In_ok-check_state}
 
-pub returns-then-number-ne0 : goal.returns-then-number-ne0
-unfolding outcome_reply state_reply unpermuted
-returns-then-number-ne0 c = refused_equations (state_refusals _ _) [] _ _ _ c.refusal_of_state-number.ensures c.if-number-ne0.true
+pub returns-in_err-check_state : goal.returns-in_err-check_state
+unfolding state_reply unpermuted
+returns-in_err-check_state c = refusal_returned _ _ _ _ _ _ _ c.from_residual.ensures.1 c.in_err-check_state.ensures
 
-passed : (c : Else-number-ne0) → Accepted c.args.set c.args.state.now
-passed c = accepted _ _ (sym c.refusal_of_state-number.ensures ∙ c.if-number-ne0.false)
+passed : (c : In_ok-check_state) → Accepted c.args.set c.args.state.now
+passed c = accepted _ _ (sym c.in_ok-check_state.ensures)
 
 -- the set has twelve places for D
 places : (c : After-struct_known-1) → length c.args.set.diagonal ≡ 12
@@ -29,7 +30,7 @@ places c = search rules
 
 pub unpermute-requires : goal.unpermute-requires
 unpermute-requires c =
-    let A = passed (goal.at.unpermute-requires c).Else-number-ne0 in
+    let A = passed (goal.at.unpermute-requires c).In_ok-check_state in
     record {
       width = A.width;
       some_full = A.half_some;
@@ -52,14 +53,14 @@ own_state s xs A long e =
 pub shape_of-state : goal.shape_of-state
 unfolding unpermute_under
 shape_of-state c =
-    let A = passed (goal.at.shape_of-state c).Else-number-ne0 in
+    let A = passed (goal.at.shape_of-state c).In_ok-check_state in
     ap length (own_state _ _ A (places (goal.at.shape_of-state c).After-struct_known-1) c.unpermute.ensures)
     ∙ (((claims _ prime_field).invertible.permutation _ _ _ _ _ A.width (A.diagonal (places (goal.at.shape_of-state c).After-struct_known-1))).from _ (state_of _ _ _ positive A.long A.words)).width
     ∙ sym A.long
 
 pub returns : goal.returns
-unfolding outcome_reply state_reply unpermuted
+unfolding state_reply unpermuted
 returns c =
     left_as
-    (done_equations (state_refusals _ _) [] _ _ (state_numbered _ _) (sym c.refusal_of_state-number.ensures ∙ c.if-number-ne0.false))
-    (own_state _ _ (passed (goal.at.returns c).Else-number-ne0) (places (goal.at.returns c).After-struct_known-1) c.unpermute.ensures)
+    (done_equations (state_refusals _ _) [] _ _ (state_numbered _ _) (sym c.in_ok-check_state.ensures))
+    (own_state _ _ (passed (goal.at.returns c).In_ok-check_state) (places (goal.at.returns c).After-struct_known-1) c.unpermute.ensures)
