@@ -2,13 +2,10 @@
 use mathlib.Core.Path.{◌≡◌, refl, sym, ap, subst, ◌∙◌}
 use mathlib.Core.Logic.{◌≢◌}
 use mathlib.Core.Bool.{Bool, true, false, ◌&&◌}
-use mathlib.Core.List.{List, []}
+use mathlib.Core.List.{List}
 use Prim.Native.Nat.{ℕ, ◌+◌, ◌%◌, ◌<◌, ◌≤◌}
-use native.Mathlib.Numerals.{add-one}
 use native.Mathlib.Omega.{arith}
 use lib.Dec.{eqb}
-use lib.ListN.{length, get_or, drop}
-use lib.Seq.{drop-cons, drop-length}
 use borrow.Author.Tests.{eqb-true, eqb-false, eq-eqb, ne_eqb}
 use Rattle.modular.specs.Arithmetic.{mul, inverse}
 use Rattle.modular.proofs.Words.{left_true, right_true}
@@ -37,32 +34,6 @@ module _ (d e : ℕ) where
       of true t = t ∙ sym (eq-eqb e (inverse prime d) (prime_laws.inverses.only d e (omega arith) w v (eqb-true (mul prime d e) 1 t)))
       of false f =
           f ∙ sym (ne_eqb e (inverse prime d) (λ g. eqb-false (mul prime d e) 1 f (ap (mul prime d) g ∙ prime_laws.inverses.product d (omega arith) w)))
-
--- the list, from i on: those before fit
-abbrev pub From : List ℕ → List ℕ → ℕ → Type 0
-From D es i = same es (inverses prime D) ≡ same (drop i es) (inverses prime (drop i D))
-
-module _ (D es : List ℕ) (i : ℕ) (h : i < length D) (l : length es ≡ length D) (U : From D es i) where
-  next : same es (inverses prime D) ≡ (eqb (get_or es i 0) (inverse prime (get_or D i 0)) && same (drop (i + 1) es) (inverses prime (drop (i + 1) D)))
-  unfolding same inverses
-  next = U ∙ ap₂' (drop-cons es i 0 (omega arith)) (drop-cons D i 0 h) ∙ ap (λ (n : ℕ). eqb (get_or es i 0) (inverse prime (get_or D i 0)) && same (drop n es) (inverses prime (drop n D))) (sym (add-one i))
-    where
-      ap₂' : {a b c d : List ℕ} → a ≡ b → c ≡ d → same a (inverses prime c) ≡ same b (inverses prime d)
-      ap₂' e f = cc
-
-  pub one_fails : eqb (get_or es i 0) (inverse prime (get_or D i 0)) ≡ false → same es (inverses prime D) ≡ false
-  one_fails f = next ∙ ap (λ (b : Bool). b && same (drop (i + 1) es) (inverses prime (drop (i + 1) D))) f
-
-  pub one_fits : eqb (get_or es i 0) (inverse prime (get_or D i 0)) ≡ true → From D es (i + 1)
-  one_fits f = next ∙ ap (λ (b : Bool). b && same (drop (i + 1) es) (inverses prime (drop (i + 1) D))) f
-
-pub all_fit : (D es : List ℕ) (i : ℕ) → i ≡ length D → length es ≡ length D → From D es i → same es (inverses prime D) ≡ true
-unfolding same inverses
-all_fit D es i e l U =
-    U ∙ both (ap (λ (n : ℕ). drop n es) (e ∙ sym l) ∙ drop-length es) (ap (λ (n : ℕ). drop n D) e ∙ drop-length D)
-  where
-    both : {a c : List ℕ} → a ≡ [] → c ≡ [] → same a (inverses prime c) ≡ true
-    both f g = rw (f, g) refl
 
 -- inverses are words
 pub fitting_words : (D es : List ℕ) → same es (inverses prime D) ≡ true → Words prime es

@@ -13,7 +13,7 @@ ghost use Rattle.kept.specs.Kept.{padded, kept_of, fits};
 ghost use Rattle.kept.specs.Products.{or_one, product_of, Before, ProductsOf};
 
 // The inverses of the words of D, 0 for a 0, and that of 1 plus their sum, 0 where D has a 0.
-#[derive(Clone, Copy)]
+#[derive(Clone, Copy, Debug, PartialEq, Eq)]
 pub struct Kept {
     pub inverses: [u64; 12],
     pub total_inverse: u64,
@@ -21,7 +21,7 @@ pub struct Kept {
 
 // Products of the words of D that are not 0, as lazy numbers: before each place of those before it, of all, and of all times 1 plus the
 // inverses.
-#[derive(Clone, Copy)]
+#[derive(Clone, Copy, Debug, PartialEq, Eq)]
 pub struct Products {
     pub before: [u64; 12],
     pub all: u64,
@@ -32,24 +32,13 @@ pub struct Products {
 pub fn count_zeros(words: &[u64]) -> usize
     ensures { result ≡ zeros words.now }
 {
-    let mut count: usize = 0;
-    let mut i = 0;
-    while i < words.len() {
-        if words[i] == 0 {
-            count += 1;
-        }
-        i += 1;
-    }
-    count
+    words.iter().filter(|word| **word == 0).count()
 }
 
 fn or_one(d: u64) -> u64
     ensures { result ≡ or_one d }
 {
-    if d == 0 {
-        return 1;
-    }
-    d
+    if d == 0 { 1 } else { d }
 }
 
 pub fn products_of(diagonal: &[u64]) -> Products
@@ -59,18 +48,16 @@ pub fn products_of(diagonal: &[u64]) -> Products
     let mut before = [0u64; 12];
     let mut all: u64 = 1;
     let mut scaled: u64 = 1;
-    let mut i = 0;
-    while i < diagonal.len() {
-        let word = or_one(diagonal[i]);
+    for (i, d) in diagonal.iter().enumerate() {
+        let word = or_one(*d);
         before[i] = all;
         scaled = fields::lazy_product_sum(scaled, word, all);
         all = fields::lazy_product(all, word);
-        i += 1;
     }
     Products {
-        before: before,
-        all: all,
-        scaled: scaled,
+        before,
+        all,
+        scaled,
     }
 }
 
@@ -80,9 +67,10 @@ fn inverse_from(d: u64, rest: u64, before: u64) -> u64
     ensures { result ≡ inverse prime d }
 {
     if d == 0 {
-        return 0;
+        0
+    } else {
+        fields::product(rest, before)
     }
-    fields::product(rest, before)
 }
 
 // The inverses of the words of D, from the last to the first: `rest` is the inverse of the product of those that are left.
@@ -92,9 +80,7 @@ fn inverses_from(diagonal: &[u64], before: &[u64; 12], rest: u64) -> [u64; 12]
 {
     let mut inverses = [0u64; 12];
     let mut left = rest;
-    let mut i = diagonal.len();
-    while i > 0 {
-        i -= 1;
+    for i in (0..diagonal.len()).rev() {
         inverses[i] = inverse_from(diagonal[i], left, before[i]);
         left = fields::lazy_product(left, or_one(diagonal[i]));
     }
@@ -128,7 +114,7 @@ fn kept_without_zero(diagonal: &[u64]) -> Kept
     let total_inverse = fields::product(fields::product(x, products.all), products.all);
     Kept {
         inverses: inverses_from(diagonal, &before, rest),
-        total_inverse: total_inverse,
+        total_inverse,
     }
 }
 
@@ -138,9 +124,10 @@ pub fn keep(diagonal: &[u64]) -> Kept
     ensures { result ≡ kept_of prime diagonal.now }
 {
     if count_zeros(diagonal) == 0 {
-        return kept_without_zero(diagonal);
+        kept_without_zero(diagonal)
+    } else {
+        kept_with_zero(diagonal)
     }
-    kept_with_zero(diagonal)
 }
 
 // Whether a number is the inverse of a word, and 0 for 0: by one product.
@@ -148,13 +135,11 @@ fn is_inverse(d: u64, e: u64) -> bool
     requires { d < prime }
     ensures { result ≡ eqb e (inverse prime d) }
 {
-    if fields::order() <= e {
-        return false;
-    }
     if d == 0 {
-        return e == 0;
+        e == 0
+    } else {
+        e < fields::order() && fields::product(d, e) == 1
     }
-    fields::product(d, e) == 1
 }
 
 // Whether these are the inverses of the words of D, one for each.
@@ -162,14 +147,7 @@ fn are_inverses(diagonal: &[u64], list: &[u64]) -> bool
     requires { Words prime diagonal.now × (length list.now ≡ length diagonal.now) }
     ensures { result ≡ same list.now (inverses prime diagonal.now) }
 {
-    let mut i = 0;
-    while i < diagonal.len() {
-        if !is_inverse(diagonal[i], list[i]) {
-            return false;
-        }
-        i += 1;
-    }
-    true
+    diagonal.iter().zip(list).all(|(d, e)| is_inverse(*d, *e))
 }
 
 // A word and some words, added up.
@@ -178,10 +156,8 @@ fn sum_from(start: u64, words: &[u64]) -> u64
     ensures { result ≡ (start + sum words.now) % prime }
 {
     let mut total = start;
-    let mut i = 0;
-    while i < words.len() {
-        total = fields::sum(total, words[i]);
-        i += 1;
+    for word in words {
+        total = fields::sum(total, *word);
     }
     total
 }
@@ -191,11 +167,10 @@ pub fn fits(zero_count: usize, diagonal: &[u64], inverses: &[u64], total_inverse
     requires { (zero_count ≡ zeros diagonal.now) × Words prime diagonal.now × (length inverses.now ≡ length diagonal.now) }
     ensures { result ≡ fits prime diagonal.now inverses.now total_inverse }
 {
-    if !are_inverses(diagonal, inverses) {
-        return false;
-    }
-    if zero_count != 0 {
-        return total_inverse == 0;
-    }
-    is_inverse(sum_from(1, inverses), total_inverse)
+    are_inverses(diagonal, inverses)
+        && if zero_count == 0 {
+            is_inverse(sum_from(1, inverses), total_inverse)
+        } else {
+            total_inverse == 0
+        }
 }

@@ -16,8 +16,8 @@ by_product d a b r e f = (subst (λ (n : ℕ). n < prime) (sym e) (mod-lt (a * b
 pub returns-then-d-eq0 : goal.returns-then-d-eq0
 returns-then-d-eq0 c = sym (ap (inverse prime) c.if-d-eq0.true ∙ prime_laws.inverses.none)
 
-pub returns : goal.returns
-returns c =
+pub returns-else-d-eq0 : goal.returns-else-d-eq0
+returns-else-d-eq0 c =
     let a = c.args in
     let b = by_product a.d a.rest a.before c.product.result c.product.ensures (c.requires.1 c.if-d-eq0.false) in
     is_inverse prime prime_field a.d c.product.result c.if-d-eq0.false c.requires.0 b.0 b.1

@@ -9,13 +9,13 @@ use Rattle.kept.proofs.inverses_from.Goals as goal
 use Rattle.kept.proofs.inverses_from.Goals.{In-loop-i}
 
 pub loop-i-init : goal.loop-i-init
-loop-i-init c = (omega arith, none_made prime prime_field c.args.diagonal.now c.args.rest c.requires.3)
+loop-i-init c = none_made prime prime_field c.args.diagonal.now c.args.rest c.requires.3
 
 -- the place before those that are made
 made : (c : In-loop-i) → Made prime prime_field c.args.diagonal.now (c.loop-i.i - 1 + 1) c.loop-i.inverses c.loop-i.left
 made c =
     let e : c.loop-i.i ≡ c.loop-i.i - 1 + 1 = omega arith in
-    subst (λ (n : ℕ). Made prime prime_field c.args.diagonal.now n c.loop-i.inverses c.loop-i.left) e c.loop-i.invariant.1
+    subst (λ (n : ℕ). Made prime prime_field c.args.diagonal.now n c.loop-i.inverses c.loop-i.left) e c.loop-i.invariant
 
 pub inverse_from-requires : goal.inverse_from-requires
 inverse_from-requires c =
@@ -26,40 +26,10 @@ pub loop-i-preserved : goal.loop-i-preserved
 loop-i-preserved c =
     let t = (goal.at.loop-i-preserved c).In-loop-i in
     let D = c.args.diagonal.now in
-    (omega arith, one_more_lem prime prime_field D (c.loop-i.i - 1) c.loop-i.inverses c.loop-i.left 0 (omega arith) (made t) c.inverse_from.result c.lazy_product-left.result (omega (arith, c.requires.0)) c.inverse_from.ensures (trans≈ c.lazy_product-left.ensures (eq≈ (ap (λ (n : ℕ). c.loop-i.left * n) c.or_one.ensures))))
+    one_more_lem prime prime_field D (c.loop-i.i - 1) c.loop-i.inverses c.loop-i.left 0 (omega arith) (made t) c.inverse_from.result c.lazy_product-left.result (omega (arith, c.requires.0)) c.inverse_from.ensures (trans≈ c.lazy_product-left.ensures (eq≈ (ap (λ (n : ℕ). c.loop-i.left * n) c.or_one.ensures)))
 
 pub returns : goal.returns
 returns c =
     let D = c.args.diagonal.now in
     let e : c.loop-i.i ≡ 0 = omega arith in
-    all_made prime prime_field D c.loop-i.inverses c.loop-i.left c.requires.0 (subst (λ (n : ℕ). Made prime prime_field D n c.loop-i.inverses c.loop-i.left) e c.loop-i.invariant.1)
-
-pub overflow_sub-i : goal.overflow_sub-i
-overflow_sub-i c = omega arith
-
-pub offset_bounds-diagonal-i : goal.offset_bounds-diagonal-i
-offset_bounds-diagonal-i c = omega arith
-
-pub bounds-diagonal-i : goal.bounds-diagonal-i
-bounds-diagonal-i c = omega arith
-
-pub offset_bounds-before-i : goal.offset_bounds-before-i
-offset_bounds-before-i c = omega arith
-
-pub bounds-before-i : goal.bounds-before-i
-bounds-before-i c = omega (arith, c.requires.2.long)
-
-pub offset_bounds-inverses-i : goal.offset_bounds-inverses-i
-offset_bounds-inverses-i c = omega arith
-
-pub bounds-inverses-i : goal.bounds-inverses-i
-bounds-inverses-i c = omega arith
-
-pub offset_bounds-diagonal-i-in-loop-i : goal.offset_bounds-diagonal-i-in-loop-i
-offset_bounds-diagonal-i-in-loop-i c = omega arith
-
-pub bounds-diagonal-i-in-loop-i : goal.bounds-diagonal-i-in-loop-i
-bounds-diagonal-i-in-loop-i c = omega arith
-
-pub loop-i-smaller : goal.loop-i-smaller
-loop-i-smaller c = omega arith
+    all_made prime prime_field D c.loop-i.inverses c.loop-i.left c.requires.0 (subst (λ (n : ℕ). Made prime prime_field D n c.loop-i.inverses c.loop-i.left) e c.loop-i.invariant)

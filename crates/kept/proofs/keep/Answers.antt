@@ -14,5 +14,5 @@ kept_with_zero-requires c =
 pub returns-then-count_zeros-eq0 : goal.returns-then-count_zeros-eq0
 returns-then-count_zeros-eq0 c = c.kept_without_zero.ensures
 
-pub returns : goal.returns
-returns c = c.kept_with_zero.ensures
+pub returns-else-count_zeros-eq0 : goal.returns-else-count_zeros-eq0
+returns-else-count_zeros-eq0 c = c.kept_with_zero.ensures
