@@ -1,5 +1,5 @@
 -- What the entries of the tree reply and leave, for any set, numbers and buffers (Rules 4, 7.4, 8.8).
-use Rattle.std.specs.Prelude.{Bool, true, false, not, cond, ◌&&◌, List, [], ◌∷◌, ◌++◌, ℕ, eqb, ltb, length}
+use Rattle.std.specs.Prelude.{Bool, not, cond, ◌&&◌, List, [], ◌∷◌, ◌++◌, ℕ, eqb, ltb, length}
 use Rattle.refusals.specs.Table.{Refusal, refusal, not_words, Reply, refused, done, reply, after}
 use Rattle.parameters.specs.declared.ParameterSet.{ParameterSet}
 use Rattle.parameters.specs.ParameterSet.{prime_of, set_refusals}
@@ -7,9 +7,8 @@ use Rattle.merkle.specs.Levels.{build, root}
 use Rattle.merkle.specs.Storeless.{storeless_root}
 use Rattle.merkle.specs.Openings.{opening, accepts}
 use Rattle.trees.specs.SetTrees.{tree_of_set, leaf_count, leaf_words, store_words, opening_words}
-use Rattle.tree_entries.specs.declared.sizing.Sizing.{Sizing}
-use Rattle.tree_entries.specs.declared.sizing.Sizing.TheVariants.{Of}
-use Rattle.tree_entries.specs.declared.sizing.Sizing.TheVariants.{Refused as NoSizes}
+use Rattle.refusals.specs.Answers.{Answer, reply_by}
+use Rattle.tree_entries.specs.declared.sizing.TreeSizes.{TreeSizes}
 use Rattle.tree_entries.specs.declared.verdict.Verdict.{Verdict}
 use Rattle.tree_entries.specs.declared.verdict.Verdict.TheVariants.{Accepted, Rejected, Refused}
 
@@ -22,9 +21,8 @@ abbrev pub no_place : ParameterSet → ℕ → Refusal
 no_place s q = refusal 11 (not (ltb q (leaf_count s)))
 
 -- The sizes of a set's tree, in numbers: of its leaves, of a store, of an opening (Rules 4.2, 4.4, 4.7).
-unfoldable pub sizing_reply : Sizing → Reply
-sizing_reply (Of sizes) = done (sizes.leaves ∷ sizes.store ∷ sizes.opening ∷ [])
-sizing_reply (NoSizes n) = refused n
+abbrev pub sizing_reply : Answer TreeSizes → Reply
+sizing_reply = reply_by (λ (sizes : TreeSizes). sizes.leaves ∷ sizes.store ∷ sizes.opening ∷ [])
 
 unfoldable pub sizes_reply : ParameterSet → Reply
 sizes_reply s = reply (set_refusals s) (leaf_words s ∷ store_words s ∷ opening_words s ∷ [])

@@ -8,5 +8,5 @@ pub mod verdict;
 
 pub use building::{build, root, storeless_root};
 pub use openings::{open, verify};
-pub use sizing::{Sizing, TreeSizes, sizes};
+pub use sizing::{TreeSizes, sizes};
 pub use verdict::Verdict;

@@ -1,96 +1,91 @@
 // Openings and their verification, under a set that is handed in.
 ghost use Rattle.std.specs.Prelude.{◌≡◌, [], ◌∷◌, ◌++◌};
 ghost use Rattle.refusals.specs.Table.{first_refusal, not_words};
+ghost use Rattle.refusals.specs.Answers.{refusal_number};
 ghost use Rattle.fields.specs.Prime.{prime};
 ghost use Rattle.state_entries.specs.Permutation.{outcome_reply};
 ghost use Rattle.tree_entries.specs.Trees.{open_refusals, open_reply, opened, verdict_reply, verify_refusals, verify_reply};
 
 use crate::verdict::Verdict;
 use parameters::ParameterSet;
-use state_entries::Outcome;
+use refusals::Refusal;
 use trees::sets;
 
-// The number of the first refusal of a set, a store, a place and siblings to be written, or 0.
-fn refusal_of_open(set: ParameterSet, store: &[u64], place: u64, siblings: &[u64]) -> u8
-    ensures { result ≡ first_refusal (open_refusals set store.now place siblings.now) }
+// The first refusal of a set, a store, a place and siblings to be written.
+fn check_open(set: ParameterSet, store: &[u64], place: u64, siblings: &[u64]) -> Result<(), Refusal>
+    ensures { refusal_number result ≡ first_refusal (open_refusals set store.now place siblings.now) }
 {
-    let number = state_entries::refusal_of(set);
-    if number != 0 {
-        return number;
-    }
+    state_entries::check(set)?;
     if store.len() != sets::store_words(set) {
-        return 10;
+        return Err(Refusal::BadLength);
     }
     if siblings.len() != sets::opening_words(set) {
-        return 10;
+        return Err(Refusal::BadLength);
     }
     if sets::places(set) as u64 <= place {
-        return 11;
+        return Err(Refusal::BadPlace);
     }
     let d = sets::dimensions(set);
     if !trees::opening_is_words(d, store, place as usize) {
-        return 12;
+        return Err(Refusal::NotAWord);
     }
-    0
+    Ok(())
 }
 
 // The opening of a place: its siblings at each level.
-pub fn open(set: ParameterSet, store: &[u64], place: u64, siblings: &mut [u64]) -> Outcome
+pub fn open(
+    set: ParameterSet,
+    store: &[u64],
+    place: u64,
+    siblings: &mut [u64],
+) -> Result<(), Refusal>
     ensures { (outcome_reply result ≡ open_reply set store.now place siblings.old)
         × (siblings.new ≡ opened set store.now place siblings.old) }
 {
-    let number = refusal_of_open(set, store, place, siblings);
-    if number != 0 {
-        return Outcome::Refused(number);
-    }
+    check_open(set, store, place, siblings)?;
     let d = sets::dimensions(set);
     trees::open(d, store, place as usize, siblings);
-    Outcome::Done
+    Ok(())
 }
 
-// 12 where a number of three lists is not a word, or 0.
-fn refusal_of_words(root: &[u64], leaf: &[u64], siblings: &[u64]) -> u8
-    ensures { result ≡ first_refusal (not_words prime (root.now ++ (leaf.now ++ siblings.now)) ∷ []) }
+// Refusal 12 where a number of three lists is not a word.
+fn check_words(root: &[u64], leaf: &[u64], siblings: &[u64]) -> Result<(), Refusal>
+    ensures { refusal_number result ≡ first_refusal (not_words prime (root.now ++ (leaf.now ++ siblings.now)) ∷ []) }
 {
-    if !parameters::all_words(root) {
-        return 12;
+    if parameters::all_words(root)
+        && parameters::all_words(leaf)
+        && parameters::all_words(siblings)
+    {
+        Ok(())
+    } else {
+        Err(Refusal::NotAWord)
     }
-    if !parameters::all_words(leaf) {
-        return 12;
-    }
-    if !parameters::all_words(siblings) {
-        return 12;
-    }
-    0
 }
 
-// The number of the first refusal of a set, a root, a place, a leaf and siblings, or 0.
-fn refusal_of_verify(
+// The first refusal of a set, a root, a place, a leaf and siblings.
+fn check_verify(
     set: ParameterSet,
     root: &[u64],
     place: u64,
     leaf: &[u64],
     siblings: &[u64],
-) -> u8
-    ensures { result ≡ first_refusal (verify_refusals set root.now place leaf.now siblings.now) }
+) -> Result<(), Refusal>
+    ensures { refusal_number result ≡ first_refusal (verify_refusals set root.now place leaf.now siblings.now) }
 {
-    let number = state_entries::refusal_of(set);
-    if number != 0 {
-        return number;
-    }
+    state_entries::check(set)?;
     if root.len() as u64 != set.node_size {
-        return 10;
+        return Err(Refusal::BadLength);
     }
     if leaf.len() as u64 != set.node_size {
-        return 10;
+        return Err(Refusal::BadLength);
     }
     if siblings.len() != sets::opening_words(set) {
-        return 10;
+        return Err(Refusal::BadLength);
     }
     if sets::places(set) as u64 <= place {
-        return 11;
+        return Err(Refusal::BadPlace);
     }
-    refusal_of_words(root, leaf, siblings)
+    check_words(root, leaf, siblings)
 }
 
 // Whether a leaf with its siblings at a place ends in a root.
@@ -103,9 +98,8 @@ pub fn verify(
 ) -> Verdict
     ensures { verdict_reply result ≡ verify_reply set root.now place leaf.now siblings.now }
 {
-    let number = refusal_of_verify(set, root, place, leaf, siblings);
-    if number != 0 {
-        return Verdict::Refused(number);
+    if let Err(refusal) = check_verify(set, root, place, leaf, siblings) {
+        return Verdict::Refused(refusal.number());
     }
     let d = sets::dimensions(set);
     let diagonal = set.diagonal;
@@ -119,7 +113,8 @@ pub fn verify(
         leaf,
         siblings,
     ) {
-        return Verdict::Accepted;
+        Verdict::Accepted
+    } else {
+        Verdict::Rejected
     }
-    Verdict::Rejected
 }
