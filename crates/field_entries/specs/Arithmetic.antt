@@ -1,14 +1,12 @@
 -- What the field's entries reply, for any numbers (Rules 1, 7.1, 8.8).
 use Rattle.std.specs.Prelude.{[], ◌∷◌, ℕ, suc, ◌%◌, eqb}
 use Rattle.modular.specs.Arithmetic.{add, sub, mul, pow, inverse, seventh_root}
-use Rattle.refusals.specs.Table.{Reply, refused, done, reply, refusal, not_words}
-use Rattle.field_entries.specs.declared.Answer.{Answer}
-use Rattle.field_entries.specs.declared.Answer.TheVariants.{Word, Refused}
+use Rattle.refusals.specs.Table.{Reply, done, reply, refusal, not_words}
+use Rattle.refusals.specs.Answers.{Answer, reply_by}
 
--- The reply that each case of the answer is (Rules 8.5).
-unfoldable pub reply_of : Answer → Reply
-reply_of (Word w) = done (w ∷ [])
-reply_of (Refused n) = refused n
+-- The reply of an entry whose result is one number (Rules 8.5).
+abbrev pub reply_of : Answer ℕ → Reply
+reply_of = reply_by (λ word. word ∷ [])
 
 unfoldable pub sum_reply : ℕ → ℕ → ℕ → Reply
 sum_reply p a b = reply (not_words p (a ∷ b ∷ []) ∷ []) (add p a b ∷ [])

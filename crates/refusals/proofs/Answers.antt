@@ -2,7 +2,7 @@
 use Rattle.std.proofs.Common.{arith, ◌≡◌, ◌<◌, ℕ, List, ◌++◌, ◌∙◌}
 use Rattle.std.specs.Result.{IsErrAnd}
 use Rattle.std.proofs.lemmas.Result.{err_from_is_err_and}
-use Rattle.refusals.specs.Table.{first_refusal, reply, after}
+use Rattle.refusals.specs.Table.{first_refusal, refused, reply, after}
 use Rattle.refusals.specs.Table.{Refusal as Row}
 use Rattle.refusals.proofs.Table.{front_answers, refused_equations}
 use Rattle.refusals.specs.Answers.{number_of, Answer, refusal_number, reply_by}
@@ -46,3 +46,7 @@ pub refusal_returned : {A : Type 0} (numbers : A → List ℕ) (answer : Answer 
 refusal_returned numbers answer r refusals result old new e f =
     let p = err_from_is_err_and answer e in
     rw (p.1, p.2) (refused_equations refusals result old new (number_of r) f (nonzero r))
+
+-- For its reply alone, where the refusal is not told by the list.
+pub reply_returned : {A : Type 0} (numbers : A → List ℕ) (answer : Answer A) (r : Refusal) → IsErrAnd answer (λ e. e ≡ r) → reply_by numbers answer ≡ refused (number_of r)
+reply_returned numbers answer r e = let p = err_from_is_err_and answer e in rw (p.1, p.2)

@@ -1,34 +1,24 @@
-use mathlib.Core.Path.{sym, ap, ◌∙◌}
-use mathlib.Core.List.{[], ◌∷◌}
-use Prim.Native.Nat.{ℕ}
-use native.Mathlib.Omega.{arith}
-use lib.Dec.{eqb}
+use Rattle.std.proofs.Common.{arith, ◌∷◌, [], ℕ, ap, sym, ◌∙◌}
 use borrow.Author.Tests.{eq-eqb, ne_eqb}
-use Rattle.modular.specs.Arithmetic.{inverse}
-use Rattle.fields.specs.Prime.{prime}
-use Rattle.refusals.specs.Table.{refusal, done}
+use Rattle.refusals.specs.Table.{done}
 use Rattle.refusals.proofs.Table.{all_passed, applied, passed}
-use Rattle.field_entries.specs.Arithmetic.{reply_of, inverse_reply}
-use Rattle.field_entries.proofs.Operands.{operand_refused, operand_passed}
+use Rattle.field_entries.specs.Arithmetic.{inverse_reply}
+use Rattle.field_entries.proofs.Operands.{operand, operand_passed, operand_returned}
 use Rattle.field_entries.proofs.inverse.Goals as goal
 
-pub returns-then-order-x : goal.returns-then-order-x
-unfolding reply_of inverse_reply
-returns-then-order-x c =
-    let x = c.args.x in
-    sym (operand_refused prime x (refusal 13 (eqb x 0) ∷ []) (inverse prime x ∷ []) (rw c.order-order.ensures at c.if-order-x.true))
+pub returns-in_err-check_word : goal.returns-in_err-check_word
+unfolding inverse_reply
+returns-in_err-check_word c = operand_returned _ _ _ _ _ _ _ c.from_residual.ensures.1 c.in_err-check_word.ensures
 
 pub returns-then-x-eq0 : goal.returns-then-x-eq0
-unfolding reply_of inverse_reply
-returns-then-x-eq0 c =
-    let x = c.args.x in
-    sym (operand_passed prime x (refusal 13 (eqb x 0) ∷ []) (inverse prime x ∷ []) (omega arith) ∙ applied 13 (eqb x 0) [] (inverse prime x ∷ []) (eq-eqb x 0 c.if-x-eq0.true))
+unfolding inverse_reply
+returns-then-x-eq0 c = sym (operand_passed _ _ _ _ c.in_ok-check_word.ensures ∙ applied 13 _ _ _ (eq-eqb _ 0 c.if-x-eq0.true))
+
+pub inverse-requires : goal.inverse-requires
+inverse-requires c = (omega (arith, c.if-x-eq0.false), operand _ _ c.in_ok-check_word.ensures)
 
 pub returns : goal.returns
-unfolding reply_of inverse_reply
+unfolding inverse_reply
 returns c =
-    let x = c.args.x in
-    ap (λ (y : ℕ). done (y ∷ [])) c.inverse.ensures
-    ∙ sym (operand_passed prime x (refusal 13 (eqb x 0) ∷ []) (inverse prime x ∷ []) (omega arith)
-    ∙ passed 13 (eqb x 0) [] (inverse prime x ∷ []) (ne_eqb x 0 c.if-x-eq0.false)
-    ∙ all_passed (inverse prime x ∷ []))
+    ap (λ (word : ℕ). done (word ∷ [])) c.inverse.ensures
+    ∙ sym (operand_passed _ _ _ _ c.in_ok-check_word.ensures ∙ passed 13 _ _ _ (ne_eqb _ 0 c.if-x-eq0.false) ∙ all_passed _)

@@ -3,9 +3,9 @@ use mathlib.Core.List.{[], ◌∷◌}
 use Prim.Native.Nat.{ℕ}
 use native.Mathlib.Omega.{arith}
 use Rattle.refusals.specs.Table.{done}
-use Rattle.field_entries.specs.Arithmetic.{reply_of, product_reply}
+use Rattle.field_entries.specs.Arithmetic.{product_reply}
 use Rattle.field_entries.proofs.product.Goals as goal
 
 pub returns : goal.returns
-unfolding reply_of product_reply
+unfolding product_reply
 returns c = ap (λ (x : ℕ). done (x ∷ [])) (omega arith)
