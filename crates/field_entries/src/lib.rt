@@ -37,14 +37,14 @@ pub fn difference(a: u64, b: u64) -> Result<u64, Refusal>
     Ok(fields::difference(a, b))
 }
 
-// a * b modulo p, for any two numbers: always the word.
+// a * b modulo p, for any two numbers: always the word, in a Result as of the entries that can refuse, so that the six are read alike.
 pub fn product(a: u64, b: u64) -> Result<u64, Refusal>
     ensures { reply_of result ≡ product_reply prime a b }
 {
     Ok(fields::product(a, b))
 }
 
-// base to the power exponent modulo p, for any two numbers: always the word.
+// base to the power exponent modulo p, for any two numbers: always the word, in a Result as that of a product.
 pub fn power(base: u64, exponent: u64) -> Result<u64, Refusal>
     ensures { reply_of result ≡ power_reply prime base exponent }
 {
