@@ -1,19 +1,17 @@
 -- What a replacement replies and leaves, for any set, numbers and store (Rules 5.2, 8.8).
-use Rattle.std.specs.Prelude.{not, ◌&&◌, List, [], ◌∷◌, ◌++◌, ℕ, suc}
-use Rattle.refusals.specs.Table.{Refusal, refusal, not_words, Reply, refused, done, reply, after}
+use Rattle.std.specs.Prelude.{not, ◌&&◌, List, [], ◌∷◌, ◌++◌, ℕ}
+use Rattle.refusals.specs.Table.{Refusal, refusal, not_words, Reply, reply, after}
+use Rattle.refusals.specs.Answers.{Answer, reply_by}
 use Rattle.parameters.specs.declared.ParameterSet.{ParameterSet}
 use Rattle.parameters.specs.ParameterSet.{prime_of, set_refusals}
 use Rattle.merkle.specs.Openings.{opening}
 use Rattle.merkle.specs.Replacement.{Counted, replace}
 use Rattle.trees.specs.SetTrees.{tree_of_set, store_words}
 use Rattle.tree_entries.specs.Trees.{has, no_place}
-use Rattle.change_entries.specs.declared.changed.Changed.{Changed}
-use Rattle.change_entries.specs.declared.changed.Changed.TheVariants.{Compressions, Refused}
 
--- The reply that each case of the answer is (Rules 8.5).
-unfoldable pub changed_reply : Changed → Reply
-changed_reply (Compressions n) = done (n ∷ [])
-changed_reply (Refused n) = refused n
+-- The reply of an entry that answers how many compressions it made (Rules 8.5).
+abbrev pub changed_reply : Answer ℕ → Reply
+changed_reply = reply_by (λ made. made ∷ [])
 
 -- Refusal 12 tests the leaf, and the siblings in the store that a replacement reads.
 unfoldable pub replace_refusals : ParameterSet → List ℕ → ℕ → List ℕ → List Refusal

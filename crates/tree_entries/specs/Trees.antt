@@ -1,13 +1,13 @@
 -- What the entries of the tree reply and leave, for any set, numbers and buffers (Rules 4, 7.4, 8.8).
 use Rattle.std.specs.Prelude.{Bool, not, cond, ◌&&◌, List, [], ◌∷◌, ◌++◌, ℕ, eqb, ltb, length}
 use Rattle.refusals.specs.Table.{Refusal, refusal, not_words, Reply, refused, done, reply, after}
+use Rattle.refusals.specs.Answers.{Answer, reply_by}
 use Rattle.parameters.specs.declared.ParameterSet.{ParameterSet}
 use Rattle.parameters.specs.ParameterSet.{prime_of, set_refusals}
 use Rattle.merkle.specs.Levels.{build, root}
 use Rattle.merkle.specs.Storeless.{storeless_root}
 use Rattle.merkle.specs.Openings.{opening, accepts}
 use Rattle.trees.specs.SetTrees.{tree_of_set, leaf_count, leaf_words, store_words, opening_words}
-use Rattle.refusals.specs.Answers.{Answer, reply_by}
 use Rattle.tree_entries.specs.declared.sizing.TreeSizes.{TreeSizes}
 use Rattle.tree_entries.specs.declared.verdict.Verdict.{Verdict}
 use Rattle.tree_entries.specs.declared.verdict.Verdict.TheVariants.{Accepted, Rejected, Refused}
