@@ -57,9 +57,6 @@ node_size_of t l e =
       several = ltb-false (t / l) 2 a.1;
     }
 
-pub arity_bounds : (t l : ℕ) → bad_width t ≡ false → bad_node_size t l ≡ false → (1 ≤ t / l) × (t / l ≤ 12)
-arity_bounds t l e f = (omega (arith, (node_size_of t l f).several), omega (arith, div-le_self t l, width_fits t (width_of t e)))
-
 -- The full rounds are even, 2 to 12, the partial ones at most 64.
 pub record Rounds (rf rp : ℕ) : Type 0 where
   pub even : rf % 2 ≡ 0

@@ -6,11 +6,16 @@ use mathlib.Core.List.{List}
 use Prim.Native.Nat.{ℕ}
 use lib.Dec.{eqb}
 use borrow.Author.Tests.{eq-eqb, ne_eqb}
+use Rattle.std.specs.Result.{IsErrAnd}
+use Rattle.std.proofs.lemmas.Result.{err_from_is_err_and}
 use Rattle.refusals.specs.Table.{first_refusal}
+use Rattle.refusals.specs.Answers.{Answer, number_of}
+use Rattle.refusals.specs.declared.Refusal.{Refusal}
+use Rattle.refusals.proofs.Answers.{nonzero}
 use Rattle.refusals.proofs.Table.{first_front, first_back}
 use Rattle.kept.specs.Kept.{padded, kept_of}
 use Rattle.parameters.specs.Refusals.{shape_refusals, list_refusals, validation_refusals}
-use Rattle.parameters.specs.ParameterSet.{held, no_set, turned_down, validation}
+use Rattle.parameters.specs.ParameterSet.{held, no_set, turned_down, validation_of, validation}
 use Rattle.parameters.specs.declared.ParameterSet.{ParameterSet}
 use Rattle.parameters.proofs.Accepted.{shape_numbered, shape_first}
 
@@ -53,6 +58,12 @@ module _ (p t l h rf rp : ℕ) (D C : List ℕ) where
   accepted_is s e z =
       let f : s ≡ cond (eqb all 0) (held p t l h rf rp D C) no_set = e ∙ rw (eq-eqb all 0 z) refl in
       λ i. record { number = sym z i; parameters = f i }
+
+  -- the exit of a `?`
+  pub refused_by : (answer : Answer ParameterSet) (r : Refusal) → IsErrAnd answer (λ e. e ≡ r) → number_of r ≡ all → validation_of answer ≡ validation p t l h rf rp D C
+  refused_by answer r e f =
+      let given = err_from_is_err_and answer e in
+      rw (given.1, given.2) (refused_is (number_of r) f (nonzero r))
 
   -- by the shape first, then by the lists
   pub by_shape : (n : ℕ) → n ≡ shape → n ≢ 0 → n ≡ all

@@ -2,10 +2,10 @@
 use mathlib.Core.Path.{◌≡◌, ap, ◌∙◌}
 use mathlib.Core.Bool.{true, false}
 use mathlib.Core.List.{List}
-use Prim.Native.Nat.{ℕ, ◌/◌}
+use Prim.Native.Nat.{ℕ, ◌/◌, ◌≤◌}
 use native.Mathlib.Omega.{arith}
 use lib.Dec.{eqb}
-use lib.ListN.{length, take}
+use lib.ListN.{length, take, length-take}
 use lib.Seq.{length-take-le}
 use borrow.Author.Tests.{eq-eqb}
 use Rattle.refusals.specs.Table.{first_refusal}
@@ -64,15 +64,18 @@ module _ (s : ParameterSet) (none : first_refusal (set_refusals s) ≡ 0) (h : �
 pub record Places (s : ParameterSet) : Type 0 where
   pub diagonal : length (used_diagonal s) ≡ s.width
   pub constants : length (used_constants s) ≡ constant_count s.width s.full_rounds s.partial_rounds
-  pub set : (h : ℕ) {E F es : List ℕ} → E ≡ padded 12 (take s.width s.diagonal) → F ≡ padded 208 (take (constant_count s.width s.full_rounds s.partial_rounds) s.constants)
-      → es ≡ padded 12 (take s.width s.inverses)
+  pub set : (h : ℕ) {E F es : List ℕ} → E ≡ padded 12 (used_diagonal s) → F ≡ padded 208 (used_constants s) → es ≡ padded 12 (used_inverses s)
       → record { width = s.width; node_size = s.node_size; height = h; full_rounds = s.full_rounds; partial_rounds = s.partial_rounds; diagonal = E; constants = F; inverses = es; total_inverse = s.total_inverse }
       ≡ held (prime_of s) s.width s.node_size h s.full_rounds s.partial_rounds (used_diagonal s) (used_constants s)
 
 pub places_of : (s : ParameterSet) → first_refusal (set_refusals s) ≡ 0 → length s.diagonal ≡ 12 → length s.constants ≡ 208 → Places s
-unfolding used_diagonal used_constants used_inverses kept_of
+unfolding used_diagonal used_constants kept_of
 places_of s none long many = record {
   diagonal = length-take-le s.width s.diagonal (omega (arith, sets.width_few s none));
   constants = length-take-le (constant_count s.width s.full_rounds s.partial_rounds) s.constants (omega (arith, count_fits _ _ _ _ _ (sets.numbers s none)));
   set = λ h e f g. of_places (prime_of s) _ _ h _ _ _ _ e f (g ∙ ap (padded 12) (sets.kept s none).inverses) (sets.kept s none).total;
 }
+
+-- the used places of a list are at most as many as the numbers say
+pub used_few : (n m : ℕ) (xs : List ℕ) {ys : List ℕ} → n ≤ m → ys ≡ take n xs → length ys ≤ m
+used_few n m xs h e = omega (arith, ap length e ∙ length-take n xs)

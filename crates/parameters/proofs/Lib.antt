@@ -1,8 +1,6 @@
 -- The laws that the proofs of validation cite, what an accepted set is, and what is claimed of the refusals of D.
 pub mod Lists
 mod Diagonal
-mod Heights
-mod Padding
 pub mod Accepted
 pub mod Answers
 pub mod AcceptedSets

@@ -1,11 +1,11 @@
 -- The parameter set (Rules 2): what is read of one that is handed in, and what validation answers.
-use Rattle.std.specs.Prelude.{cond, List, ◌++◌, ℕ, eqb, take, replicate}
+use Rattle.std.specs.Prelude.{cond, List, ◌++◌, ℕ, eqb, take, replicate, Ok, Err}
 use Rattle.refusals.specs.Table.{Refusal, first_refusal}
+use Rattle.refusals.specs.Answers.{Answer, number_of}
 use Rattle.fields.specs.Prime.{prime, word_bytes}
 use Rattle.kept.specs.Kept.{padded, kept_of}
 use Rattle.parameters.specs.Refusals.{constant_count, number_refusals, used_refusals, validation_refusals}
 use Rattle.parameters.specs.declared.ParameterSet.{ParameterSet}
-use Rattle.parameters.specs.declared.Validation.{Validation}
 
 -- The prime of a set: today one for every set (Rules 1.1).
 abbrev pub prime_of : ParameterSet → ℕ
@@ -43,9 +43,19 @@ no_set = record {
   total_inverse = 0;
 }
 
+-- What validation answers: 0 and the set, or the number of a refusal and zeros.
+pub record Validation : Type 0 where
+  pub number : ℕ
+  pub parameters : ParameterSet
+
 -- A refused validation: its number, and zeros.
 unfoldable pub turned_down : ℕ → Validation
 turned_down n = record { number = n; parameters = no_set }
+
+-- The validation that an answer of code is.
+abbrev pub validation_of : Answer ParameterSet → Validation
+validation_of (Ok set) = record { number = 0; parameters = set }
+validation_of (Err refusal) = turned_down (number_of refusal)
 
 -- What validation answers (Rules 2.4, 2.5): 0 and the set, or the number of the first refusal that applies and zeros.
 unfoldable pub validation : ℕ → ℕ → ℕ → ℕ → ℕ → ℕ → List ℕ → List ℕ → Validation

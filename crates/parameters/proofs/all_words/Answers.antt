@@ -1,5 +1,4 @@
 use mathlib.Core.Path.{refl, sym, ◌∙◌}
-use Prim.Native.Nat.{◌-◌}
 use native.Mathlib.Omega.{arith}
 use Rattle.modular.specs.Arithmetic.{all_words}
 use Rattle.fields.specs.Prime.{prime}
