@@ -11,7 +11,6 @@ use borrow.Author.Tests.{eq-eqb}
 use Rattle.refusals.specs.Table.{first_refusal}
 use Rattle.refusals.proofs.Table.{refusal_none, first_none}
 use Rattle.refusals.proofs.LengthsAndWords.{both_good}
-use Rattle.poseidon2.specs.Inverse.{inverses}
 use Rattle.kept.specs.Kept.{padded, kept_of}
 use Rattle.parameters.specs.Refusals.{bad_width, bad_node_size, bad_full_rounds, bad_partial_rounds, bad_height, bad_lengths, constant_count, number_refusals, list_refusals, used_refusals, validation_refusals}
 use Rattle.parameters.specs.ParameterSet.{prime_of, held, used_diagonal, used_constants, used_inverses, set_refusals}

@@ -4,19 +4,29 @@ use mathlib.Core.Logic.{◌≢◌}
 use mathlib.Core.List.{List}
 use Prim.Native.Nat.{ℕ}
 use borrow.Author.Tests.{eq-eqb, ne_eqb}
+use Rattle.std.specs.Result.{IsErrAnd}
+use Rattle.std.proofs.lemmas.Result.{err_from_is_err_and}
 use Rattle.refusals.specs.Table.{first_refusal}
+use Rattle.refusals.specs.Answers.{Answer, number_of}
+use Rattle.refusals.specs.declared.Refusal.{Refusal}
+use Rattle.refusals.proofs.Answers.{nonzero}
 use Rattle.fields.specs.Prime.{prime}
-use Rattle.parameters.specs.ParameterSet.{held, turned_down, validation, with_diagonal, with_height, set_refusals}
+use Rattle.parameters.specs.ParameterSet.{Validation, held, turned_down, validation_of, validation, with_diagonal, with_height, set_refusals}
 use Rattle.parameters.specs.declared.ParameterSet.{ParameterSet}
-use Rattle.parameters.specs.declared.Validation.{Validation}
 use Rattle.parameters.proofs.Validated.{is_held, held_taken, held_diagonal, held_constants}
 use Rattle.set_entries.specs.Exchange.{judged_first, diagonal_exchanged, height_exchanged}
 use Rattle.set_entries.specs.Statements.{OfValidated, Exchanges}
 
 module _ (s : ParameterSet) (v : Validation) where
-  pub set-refused : (n : ℕ) → n ≡ first_refusal (set_refusals s) → n ≢ 0 → turned_down n ≡ judged_first s v
+  set-refused : (n : ℕ) → n ≡ first_refusal (set_refusals s) → n ≢ 0 → turned_down n ≡ judged_first s v
   unfolding judged_first
   set-refused n e o = ap turned_down e ∙ sym (rw (ne_eqb (first_refusal (set_refusals s)) 0 (λ z. o (e ∙ z))) refl)
+
+  -- the exit of a `?`
+  pub refused_by : (answer : Answer ParameterSet) (r : Refusal) → IsErrAnd answer (λ e. e ≡ r) → number_of r ≡ first_refusal (set_refusals s) → validation_of answer ≡ judged_first s v
+  refused_by answer r e f =
+      let given = err_from_is_err_and answer e in
+      rw (given.1, given.2) (set-refused (number_of r) f (nonzero r))
 
   pub set-taken : first_refusal (set_refusals s) ≡ 0 → v ≡ judged_first s v
   unfolding judged_first

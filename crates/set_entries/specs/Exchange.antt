@@ -3,8 +3,7 @@
 use Rattle.std.specs.Prelude.{cond, List, ℕ, eqb}
 use Rattle.refusals.specs.Table.{first_refusal}
 use Rattle.parameters.specs.declared.ParameterSet.{ParameterSet}
-use Rattle.parameters.specs.declared.Validation.{Validation}
-use Rattle.parameters.specs.ParameterSet.{turned_down, set_refusals, with_diagonal, with_height}
+use Rattle.parameters.specs.ParameterSet.{Validation, turned_down, set_refusals, with_diagonal, with_height}
 
 -- The answer for an outcome, if the set is not refused.
 unfoldable pub judged_first : ParameterSet → Validation → Validation
