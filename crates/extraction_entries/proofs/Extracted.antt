@@ -7,8 +7,12 @@ use mathlib.Core.Option.{Option, none, some}
 use Prim.Native.Nat.{ℕ, ◌<◌}
 use borrow.Author.Tests.{not-false}
 use Rattle.modular.proofs.Words.{left_true, right_true}
-use Rattle.refusals.specs.Table.{refusal, first_refusal, refused, done}
-use Rattle.refusals.proofs.Table.{first_none, refusal_none, reply_done, written_after, refused_equations}
+use Rattle.std.specs.Result.{IsErrAnd}
+use Rattle.refusals.specs.Table.{refusal, first_refusal, done}
+use Rattle.refusals.specs.Answers.{Answer, number_of}
+use Rattle.refusals.specs.declared.Refusal.{Refusal}
+use Rattle.refusals.proofs.Table.{first_none, refusal_none, reply_done, written_after}
+use Rattle.refusals.proofs.Answers.{refusal_returned}
 use Rattle.parameters.specs.declared.ParameterSet.{ParameterSet}
 use Rattle.merkle.specs.Lists.{same, lowest}
 use Rattle.merkle.specs.Openings.{path_row}
@@ -18,7 +22,7 @@ use Rattle.merkle.proofs.Lists.{same_false}
 use Rattle.paths.specs.Levels.{level_or}
 use Rattle.trees.specs.SetTrees.{tree_of_set}
 use Rattle.trees.proofs.SetTrees.{laws}
-use Rattle.extraction_entries.specs.Extraction.{Pair, pair_refusals, both_accepted, extract_refusals, collision, level_of, first_of, second_of, extract_reply, extracted_first, extracted_second}
+use Rattle.extraction_entries.specs.Extraction.{Pair, pair_refusals, both_accepted, extract_refusals, collision, level_of, first_of, second_of, extract_reply, extracted_first, extracted_second, extraction_reply}
 use Rattle.extraction_entries.proofs.AcceptedPairs.{Paired, pair_numbered, extract_numbered, pair_passed}
 use Rattle.extraction_entries.proofs.Verdicts.{one, other}
 
@@ -85,10 +89,11 @@ module _ (s : ParameterSet) (two : Pair) (first second : List ℕ) (z : first_re
     )
 
 -- and where something is refused
-pub refused_extract : (s : ParameterSet) (two : Pair) (first second : List ℕ) {n : ℕ} → n ≡ first_refusal (extract_refusals s two first second) → n ≢ 0
-    → (refused n ≡ extract_reply s two first second) × (first ≡ extracted_first s two first second) × (second ≡ extracted_second s two first second)
+pub refused_extract : (s : ParameterSet) (two : Pair) (first second : List ℕ) (answer : Answer ℕ) (r : Refusal) → IsErrAnd answer (λ e. e ≡ r) → number_of r ≡ first_refusal (extract_refusals s two first second)
+    → (extraction_reply answer ≡ extract_reply s two first second) × (first ≡ extracted_first s two first second) × (second ≡ extracted_second s two first second)
 unfolding extract_reply extracted_first extracted_second
-refused_extract s two first second e o =
+refused_extract s two first second answer r i e =
     let level = level_of (collision s two) ∷ [] in
-    let f = refused_equations (extract_refusals s two first second) level first (first_of (collision s two) first) _ e o in
-    (f.0, f.1, (refused_equations (extract_refusals s two first second) level second (second_of (collision s two) second) _ e o).1)
+    let numbers = λ (n : ℕ). n ∷ [] in
+    let f = refusal_returned numbers answer r (extract_refusals s two first second) level first (first_of (collision s two) first) i e in
+    (f.0, f.1, (refusal_returned numbers answer r (extract_refusals s two first second) level second (second_of (collision s two) second) i e).1)

@@ -11,7 +11,6 @@ use Rattle.refusals.proofs.LengthsAndWords.{and_false_left, and_true_left}
 use Rattle.parameters.specs.declared.ParameterSet.{ParameterSet}
 use Rattle.merkle.specs.Lists.{same}
 use Rattle.merkle.specs.Openings.{accepts}
-use Rattle.tree_entries.specs.declared.verdict.Verdict.{Verdict}
 use Rattle.tree_entries.specs.declared.verdict.Verdict.TheVariants.{Accepted, Rejected, Refused}
 use Rattle.trees.specs.SetTrees.{tree_of_set}
 use Rattle.tree_entries.specs.Trees.{verdict_reply, verify_refusals, verify_reply}
@@ -43,29 +42,27 @@ module _ (s : ParameterSet) (top : List ℕ) (q : ℕ) (leaf siblings : List ℕ
   abbrev yes : Bool
   yes = accepts (tree_of_set s) s.height top q leaf siblings
 
-  module _ (v : Verdict) (said : verdict_reply v ≡ verify_reply s top q leaf siblings) where
-    valued : value (verdict_reply v) ≡ cond yes 1 0
-    unfolding verify_reply
-    valued = ap value (said ∙ reply_done (verify_refusals s top q leaf siblings) (cond yes 1 0 ∷ []) (verify_numbered s top q leaf siblings) none)
+  decided : {r : Reply} → r ≡ verify_reply s top q leaf siblings → value r ≡ cond yes 1 0
+  unfolding verify_reply
+  decided said = ap value (said ∙ reply_done (verify_refusals s top q leaf siblings) (cond yes 1 0 ∷ []) (verify_numbered s top q leaf siblings) none)
 
-    pub refusal_of_accepted : v ≡ Accepted → ◌≡◌ {A = ℕ} 0 (first_refusal (refusal 14 (not yes) ∷ []))
-    unfolding verdict_reply
-    refusal_of_accepted e = refusal_of_yes yes (sym (ap (λ (w : Verdict). value (verdict_reply w)) e) ∙ valued)
+  pub accepted_passes : verdict_reply Accepted ≡ verify_reply s top q leaf siblings → ◌≡◌ {A = ℕ} 0 (first_refusal (refusal 14 (not yes) ∷ []))
+  unfolding verdict_reply
+  accepted_passes said = refusal_of_yes yes (decided said)
 
-    pub refusal_of_rejected : v ≡ Rejected → ◌≡◌ {A = ℕ} 14 (first_refusal (refusal 14 (not yes) ∷ []))
-    unfolding verdict_reply
-    refusal_of_rejected e = refusal_of_no yes (sym (ap (λ (w : Verdict). value (verdict_reply w)) e) ∙ valued)
+  pub rejected_refused : verdict_reply Rejected ≡ verify_reply s top q leaf siblings → ◌≡◌ {A = ℕ} 14 (first_refusal (refusal 14 (not yes) ∷ []))
+  unfolding verdict_reply
+  rejected_refused said = refusal_of_no yes (decided said)
 
-    -- nothing is refused there
-    pub refusal_of_refused : (n : ℕ) → v ≡ Refused n → n ≡ first_refusal (refusal 14 (not yes) ∷ [])
-    unfolding verdict_reply
-    refusal_of_refused n e = absurd (no_value yes (sym (ap (λ (w : Verdict). value (verdict_reply w)) e) ∙ valued))
+  pub never_refused : (n : ℕ) → verdict_reply (Refused n) ≡ verify_reply s top q leaf siblings → ⊥
+  unfolding verdict_reply
+  never_refused n said = no_value yes (decided said)
 
 -- the refusal of an opening, by whether it is accepted
-pub opening_accepted : (b : Bool) {r : ℕ} → r ≡ first_refusal (refusal 14 (not b) ∷ []) → r ≡ 0 → b ≡ true
+pub opening_accepted : (b : Bool) → ◌≡◌ {A = ℕ} 0 (first_refusal (refusal 14 (not b) ∷ [])) → b ≡ true
 unfolding first_refusal
-opening_accepted true e z = refl
-opening_accepted false e z = absurd (omega (arith, sym e ∙ z))
+opening_accepted true e = refl
+opening_accepted false e = absurd (omega (arith, e))
 
 opening_rejected : (b : Bool) {r : ℕ} → r ≡ first_refusal (refusal 14 (not b) ∷ []) → r ≢ 0 → (b ≡ false) × (r ≡ 14)
 unfolding first_refusal

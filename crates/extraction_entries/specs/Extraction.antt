@@ -1,7 +1,8 @@
 -- What extraction replies and leaves, for any set, root, place, leaves, siblings and buffers (Rules 5.7, 8.8).
 use Rattle.std.specs.Prelude.{Bool, not, ◌&&◌, List, [], ◌∷◌, ◌++◌, ℕ}
 use Rattle.std.proofs.Math.Option.{Option, none, some}
-use Rattle.refusals.specs.Table.{Refusal, refusal, not_words, Reply, refused, done, reply, after}
+use Rattle.refusals.specs.Table.{Refusal, refusal, not_words, Reply, reply, after}
+use Rattle.refusals.specs.Answers.{Answer, reply_by}
 use Rattle.parameters.specs.declared.ParameterSet.{ParameterSet}
 use Rattle.parameters.specs.ParameterSet.{prime_of, set_refusals}
 use Rattle.merkle.specs.Lists.{same}
@@ -9,13 +10,11 @@ use Rattle.merkle.specs.Openings.{accepts}
 use Rattle.merkle.specs.Extraction.{Collision, extract}
 use Rattle.trees.specs.SetTrees.{tree_of_set, opening_words}
 use Rattle.tree_entries.specs.Trees.{has, no_place}
-use Rattle.extraction_entries.specs.declared.Extraction.{Extraction}
-use Rattle.extraction_entries.specs.declared.Extraction.TheVariants.{Level, Refused}
+use Rattle.extraction_entries.specs.declared.Pair.{Pair as Handed}
 
--- The reply that each case of the answer is (Rules 8.5).
-unfoldable pub extraction_reply : Extraction → Reply
-extraction_reply (Level n) = done (n ∷ [])
-extraction_reply (Refused n) = refused n
+-- The reply of an entry that answers a level (Rules 8.5).
+abbrev pub extraction_reply : Answer ℕ → Reply
+extraction_reply = reply_by (λ level. level ∷ [])
 
 -- What extraction is handed beside the set and the buffers: a root, a place, and two leaves with siblings (Rules 5.7).
 pub record Pair : Type 0 where
@@ -28,6 +27,13 @@ pub record Pair : Type 0 where
 
 abbrev pub pair : List ℕ → ℕ → List ℕ → List ℕ → List ℕ → List ℕ → Pair
 pair top q a xs b ys = record { root = top; place = q; first_leaf = a; first_siblings = xs; second_leaf = b; second_siblings = ys }
+
+-- that of the code's struct, and its numbers in one list
+abbrev pub pair_of : Handed → Pair
+pair_of two = pair two.root.now two.place two.first.leaf.now two.first.siblings.now two.second.leaf.now two.second.siblings.now
+
+abbrev pub pair_words : Pair → List ℕ
+pair_words two = two.root ++ (two.first_leaf ++ (two.first_siblings ++ (two.second_leaf ++ two.second_siblings)))
 
 -- a leaf and its siblings have their lengths
 abbrev pub opens : ParameterSet → List ℕ → List ℕ → Bool
@@ -48,7 +54,7 @@ module _ (s : ParameterSet) (two : Pair) where
       set_refusals s
       ++ (refusal 10 (not (pair_fits first second))
       ∷ no_place s q
-      ∷ not_words (prime_of s) (top ++ (a ++ (xs ++ (b ++ ys)))) ∷ [])
+      ∷ not_words (prime_of s) (pair_words two) ∷ [])
 
   -- where this is not so the refusal is 14 (Rules 8.1)
   unfoldable pub both_accepted : Bool

@@ -1,185 +1,125 @@
 // The extraction of a collision from two leaves that are both accepted at one place, under a set that is handed in.
 #![tactic(auto)]
 
-ghost use Rattle.std.specs.Prelude.{◌≡◌, not, ◌&&◌, [], ◌∷◌, ◌++◌, ℕ};
+ghost use Rattle.std.specs.Prelude.{◌≡◌, not, ◌&&◌, [], ◌∷◌, ◌++◌};
 ghost use Rattle.modular.specs.Arithmetic.{all_words};
 ghost use Rattle.refusals.specs.Table.{refusal, first_refusal};
+ghost use Rattle.refusals.specs.Answers.{refusal_number};
 ghost use Rattle.fields.specs.Prime.{prime};
+ghost use Rattle.parameters.specs.ParameterSet.{set_refusals};
 ghost use Rattle.merkle.specs.Openings.{accepts};
 ghost use Rattle.trees.specs.SetTrees.{tree_of_set, opening_words};
 ghost use Rattle.tree_entries.specs.Trees.{has, verify_refusals};
-ghost use Rattle.extraction_entries.specs.Extraction.{extraction_reply, pair, pair_fits, pair_refusals, extract_refusals, extract_reply, extracted_first, extracted_second};
+ghost use Rattle.extraction_entries.specs.Extraction.{extraction_reply, opens, pair, pair_of, pair_words, pair_fits, pair_refusals, extract_refusals, extract_reply, extracted_first, extracted_second};
 
 use parameters::ParameterSet;
+use refusals::Refusal;
 use tree_entries::Verdict;
 use trees::sets;
 
-// The level of the collision, or the number of the refusal.
+// A leaf with its siblings.
 #[derive(Clone, Copy)]
-pub enum Extraction {
-    Level(u64),
-    Refused(u8),
+struct Opening<'a> {
+    leaf: &'a [u64],
+    siblings: &'a [u64],
 }
 
-// Whether a leaf and its siblings have these lengths.
-fn opens(node_size: u64, beside: usize, leaf: &[u64], siblings: &[u64]) -> bool
-    ensures { result ≡ (has leaf.now node_size && has siblings.now beside) }
-{
-    if leaf.len() as u64 != node_size {
-        return false;
-    }
-    siblings.len() == beside
+// What extraction is handed beside the set and the buffers.
+#[derive(Clone, Copy)]
+struct Pair<'a> {
+    root: &'a [u64],
+    place: u64,
+    first: Opening<'a>,
+    second: Opening<'a>,
 }
 
-// Whether every list and buffer has its length, where `beside` is an opening's.
-fn pair_fits(
-    set: ParameterSet,
-    beside: usize,
-    root: &[u64],
-    first: &[u64],
-    first_siblings: &[u64],
-    second: &[u64],
-    second_siblings: &[u64],
-    first_row: &[u64],
-    second_row: &[u64],
-) -> bool
-    ensures { (q : ℕ) → beside ≡ opening_words set → result ≡ pair_fits set (pair root.now q first.now first_siblings.now second.now second_siblings.now) first_row.now second_row.now }
+// Whether a leaf and its siblings have their lengths.
+fn opening_fits(set: ParameterSet, opening: Opening) -> bool
+    requires { first_refusal (set_refusals set) ≡ 0 }
+    ensures { result ≡ opens set opening.entry.leaf.now opening.entry.siblings.now }
 {
-    if root.len() as u64 != set.node_size {
-        return false;
-    }
-    if !opens(set.node_size, beside, first, first_siblings) {
-        return false;
-    }
-    if !opens(set.node_size, beside, second, second_siblings) {
-        return false;
-    }
-    if first_row.len() as u64 != set.width {
-        return false;
-    }
-    second_row.len() as u64 == set.width
+    opening.leaf.len() as u64 == set.node_size && opening.siblings.len() == sets::opening_words(set)
+}
+
+// Whether every list and buffer has its length.
+#[tactic(auto, unfolding(crate::specs::Extraction::pair_fits))]
+fn lengths_fit(set: ParameterSet, two: Pair, first_row: &[u64], second_row: &[u64]) -> bool
+    requires { first_refusal (set_refusals set) ≡ 0 }
+    ensures { result ≡ pair_fits set (pair_of two.entry) first_row.now second_row.now }
+{
+    two.root.len() as u64 == set.node_size
+        && opening_fits(set, two.first)
+        && opening_fits(set, two.second)
+        && first_row.len() as u64 == set.width
+        && second_row.len() as u64 == set.width
 }
 
 // Whether every number of the root, the leaves and their siblings is a word.
-fn pair_is_words(
-    root: &[u64],
-    first: &[u64],
-    first_siblings: &[u64],
-    second: &[u64],
-    second_siblings: &[u64],
-) -> bool
-    ensures { result ≡ all_words prime (root.now ++ (first.now ++ (first_siblings.now ++ (second.now ++ second_siblings.now)))) }
+#[tactic(auto, using(modular::proofs::Words::words_both))]
+fn is_words(two: Pair) -> bool
+    ensures { result ≡ all_words prime (pair_words (pair_of two.entry)) }
 {
-    if !parameters::all_words(root) {
-        return false;
-    }
-    if !parameters::all_words(first) {
-        return false;
-    }
-    if !parameters::all_words(first_siblings) {
-        return false;
-    }
-    if !parameters::all_words(second) {
-        return false;
-    }
-    parameters::all_words(second_siblings)
+    parameters::all_words(two.root)
+        && parameters::all_words(two.first.leaf)
+        && parameters::all_words(two.first.siblings)
+        && parameters::all_words(two.second.leaf)
+        && parameters::all_words(two.second.siblings)
 }
 
-// The number of the first of refusals 1 to 12 that applies, or 0.
-fn refusal_of_pair(
+// The first of refusals 1 to 12 that applies.
+fn check_pair(
     set: ParameterSet,
-    root: &[u64],
-    place: u64,
-    first: &[u64],
-    first_siblings: &[u64],
-    second: &[u64],
-    second_siblings: &[u64],
+    two: Pair,
     first_row: &[u64],
     second_row: &[u64],
-) -> u8
-    ensures { result ≡ first_refusal (pair_refusals set (pair root.now place first.now first_siblings.now second.now second_siblings.now) first_row.now second_row.now) }
+) -> Result<(), Refusal>
+    ensures { refusal_number result ≡ first_refusal (pair_refusals set (pair_of two.entry) first_row.now second_row.now) }
 {
-    let number = state_entries::refusal_of(set);
-    if number != 0 {
-        return number;
+    state_entries::check(set)?;
+    if !lengths_fit(set, two, first_row, second_row) {
+        return Err(Refusal::BadLength);
     }
-    let beside = sets::opening_words(set);
-    if !pair_fits(
-        set,
-        beside,
-        root,
-        first,
-        first_siblings,
-        second,
-        second_siblings,
-        first_row,
-        second_row,
-    ) {
-        return 10;
+    if sets::places(set) as u64 <= two.place {
+        return Err(Refusal::BadPlace);
     }
-    if sets::places(set) as u64 <= place {
-        return 11;
+    if !is_words(two) {
+        return Err(Refusal::NotAWord);
     }
-    if !pair_is_words(root, first, first_siblings, second, second_siblings) {
-        return 12;
-    }
-    0
+    Ok(())
 }
 
-// 14 where an opening that passes refusals 1 to 12 is not accepted, or 0.
-fn refusal_of_opening(
+// Refusal 14 where an opening that passes refusals 1 to 12 is not accepted.
+fn check_opening(
     set: ParameterSet,
     root: &[u64],
     place: u64,
-    leaf: &[u64],
-    siblings: &[u64],
-) -> u8
-    ensures { first_refusal (verify_refusals set root.now place leaf.now siblings.now) ≡ 0
-        → result ≡ first_refusal (refusal 14 (not (accepts (tree_of_set set) set.height root.now place leaf.now siblings.now)) ∷ []) }
+    opening: Opening,
+) -> Result<(), Refusal>
+    requires { first_refusal (verify_refusals set root.now place opening.leaf.now opening.siblings.now) ≡ 0 }
+    ensures { refusal_number result ≡ first_refusal (refusal 14 (not (accepts (tree_of_set set) set.height root.now place opening.entry.leaf.now opening.entry.siblings.now)) ∷ []) }
 {
-    match tree_entries::verify(set, root, place, leaf, siblings) {
-        Verdict::Accepted => 0,
-        Verdict::Rejected => 14,
-        Verdict::Refused(number) => number,
+    match tree_entries::verify(set, root, place, opening.leaf, opening.siblings) {
+        Verdict::Accepted => Ok(()),
+        Verdict::Rejected => Err(Refusal::NotAccepted),
+        Verdict::Refused(_) => unreachable!(),
     }
 }
 
-// The number of the first refusal of a pair of openings, or 0. Of equal leaves no verdict is asked for.
-fn refusal_of_extract(
+// The first refusal of a pair of openings. Of equal leaves no verdict is asked for.
+fn check_extract(
     set: ParameterSet,
-    root: &[u64],
-    place: u64,
-    first: &[u64],
-    first_siblings: &[u64],
-    second: &[u64],
-    second_siblings: &[u64],
+    two: Pair,
     first_row: &[u64],
     second_row: &[u64],
-) -> u8
-    ensures { result ≡ first_refusal (extract_refusals set (pair root.now place first.now first_siblings.now second.now second_siblings.now) first_row.now second_row.now) }
+) -> Result<(), Refusal>
+    ensures { refusal_number result ≡ first_refusal (extract_refusals set (pair_of two.entry) first_row.now second_row.now) }
 {
-    let earlier = refusal_of_pair(
-        set,
-        root,
-        place,
-        first,
-        first_siblings,
-        second,
-        second_siblings,
-        first_row,
-        second_row,
-    );
-    if earlier != 0 {
-        return earlier;
+    check_pair(set, two, first_row, second_row)?;
+    if paths::comparison::same_words(two.first.leaf, two.second.leaf) {
+        return Err(Refusal::EqualLeaves);
     }
-    if paths::comparison::same_words(first, second) {
-        return 15;
-    }
-    let number = refusal_of_opening(set, root, place, first, first_siblings);
-    if number != 0 {
-        return number;
-    }
-    refusal_of_opening(set, root, place, second, second_siblings)
+    check_opening(set, two.root, two.place, two.first)?;
+    check_opening(set, two.root, two.place, two.second)
 }
 
 // The lowest level at which the rows of the two leaves differ and compress alike. The first leaf's row there is written to the first
@@ -194,25 +134,24 @@ pub fn extract(
     second_siblings: &[u64],
     first_row: &mut [u64],
     second_row: &mut [u64],
-) -> Extraction
+) -> Result<u64, Refusal>
     ensures { (extraction_reply result ≡ extract_reply set (pair root.now place first.now first_siblings.now second.now second_siblings.now) first_row.old second_row.old)
         × (first_row.new ≡ extracted_first set (pair root.now place first.now first_siblings.now second.now second_siblings.now) first_row.old second_row.old)
         × (second_row.new ≡ extracted_second set (pair root.now place first.now first_siblings.now second.now second_siblings.now) first_row.old second_row.old) }
 {
-    let number = refusal_of_extract(
-        set,
+    let two = Pair {
         root,
         place,
-        first,
-        first_siblings,
-        second,
-        second_siblings,
-        first_row,
-        second_row,
-    );
-    if number != 0 {
-        return Extraction::Refused(number);
-    }
+        first: Opening {
+            leaf: first,
+            siblings: first_siblings,
+        },
+        second: Opening {
+            leaf: second,
+            siblings: second_siblings,
+        },
+    };
+    check_extract(set, two, first_row, second_row)?;
     let d = sets::dimensions(set);
     let diagonal = set.diagonal;
     let constants = set.constants;
@@ -247,5 +186,5 @@ pub fn extract(
         level,
         second_row,
     );
-    Extraction::Level(level as u64)
+    Ok(level as u64)
 }
