@@ -1,6 +1,8 @@
 -- What an opening reader gives for one level, for any set, sibling words and level (Rules 4.9, 8.8).
-use Rattle.std.specs.Prelude.{not, List, [], ◌∷◌, ◌++◌, ℕ, zero, suc, ltb}
-use Rattle.refusals.specs.Table.{Refusal, refusal, not_words, Reply, refused, done, reply, after}
+use Rattle.std.specs.Prelude.{not, List, [], ◌∷◌, ◌++◌, ℕ, Ok, Err, ltb}
+use Rattle.std.specs.Borrow.{Bor}
+use Rattle.refusals.specs.Table.{Refusal, refusal, not_words, Reply, reply, after}
+use Rattle.refusals.specs.Answers.{Answer, reply_by}
 use Rattle.parameters.specs.declared.ParameterSet.{ParameterSet}
 use Rattle.parameters.specs.ParameterSet.{prime_of, set_refusals}
 use Rattle.merkle.specs.Openings.{siblings_at}
@@ -23,7 +25,10 @@ read_reply s siblings j = reply (read_refusals s siblings j) (siblings_at (tree_
 unfoldable pub read_words : ParameterSet → List ℕ → ℕ → List ℕ
 read_words s siblings j = after (read_reply s siblings j) [] (siblings_at (tree_of_set s) siblings j)
 
--- The reply that a part's number and words are: with 0 the words, else a refusal.
-unfoldable pub part_reply : ℕ → List ℕ → Reply
-part_reply zero words = done words
-part_reply (suc n) words = refused (suc n)
+-- The reply that a reader's answer is, and the words that it gives: none with a refusal.
+abbrev pub part_reply : Answer (Bor (List ℕ)) → Reply
+part_reply = reply_by (λ part. part.now)
+
+abbrev pub words_given : Answer (Bor (List ℕ)) → List ℕ
+words_given (Ok part) = part.now
+words_given (Err refusal) = []

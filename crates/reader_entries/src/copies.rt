@@ -1,47 +1,52 @@
 // A level's part of sibling words copied to a buffer, for callers that cannot hold a view.
 ghost use Rattle.std.specs.Prelude.{◌≡◌};
 ghost use Rattle.refusals.specs.Table.{first_refusal};
+ghost use Rattle.refusals.specs.Answers.{refusal_number};
 ghost use Rattle.state_entries.specs.Permutation.{outcome_reply};
 ghost use Rattle.reader_entries.specs.Copies.{copy_refusals, copy_reply, copied};
 
 use parameters::ParameterSet;
-use state_entries::Outcome;
+use refusals::Refusal;
 use trees::sets;
 
-// The number of the first refusal of a set, siblings, a level and a buffer to be written, or 0.
-fn refusal_of_copy(set: ParameterSet, siblings: &[u64], level: u64, buffer: &[u64]) -> u8
-    ensures { result ≡ first_refusal (copy_refusals set siblings.now level buffer.now) }
+// Whether a set, siblings, a level and a buffer to be written are accepted, or their first refusal.
+fn check_copy(
+    set: ParameterSet,
+    siblings: &[u64],
+    level: u64,
+    buffer: &[u64],
+) -> Result<(), Refusal>
+    ensures { refusal_number result ≡ first_refusal (copy_refusals set siblings.now level buffer.now) }
 {
-    let number = state_entries::refusal_of(set);
-    if number != 0 {
-        return number;
-    }
+    state_entries::check(set)?;
     if siblings.len() != sets::opening_words(set) {
-        return 10;
+        return Err(Refusal::BadLength);
     }
     if buffer.len() != sets::part_words(set) {
-        return 10;
+        return Err(Refusal::BadLength);
     }
     if set.height <= level {
-        return 11;
+        return Err(Refusal::BadPlace);
     }
     let words = sets::level_words(set, siblings, level);
     if !parameters::all_words(words) {
-        return 12;
+        return Err(Refusal::NotAWord);
     }
-    0
+    Ok(())
 }
 
 // A level's part, copied to a buffer.
-pub fn copy_level(set: ParameterSet, siblings: &[u64], level: u64, buffer: &mut [u64]) -> Outcome
+pub fn copy_level(
+    set: ParameterSet,
+    siblings: &[u64],
+    level: u64,
+    buffer: &mut [u64],
+) -> Result<(), Refusal>
     ensures { (outcome_reply result ≡ copy_reply set siblings.now level buffer.old)
         × (buffer.new ≡ copied set siblings.now level buffer.old) }
 {
-    let number = refusal_of_copy(set, siblings, level, buffer);
-    if number != 0 {
-        return Outcome::Refused(number);
-    }
+    check_copy(set, siblings, level, buffer)?;
     let words = sets::level_words(set, siblings, level);
-    trees::nodes::copy_words(words, 0, words.len(), buffer, 0);
-    Outcome::Done
+    buffer.copy_from_slice(words);
+    Ok(())
 }

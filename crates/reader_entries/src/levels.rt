@@ -1,56 +1,25 @@
-// A level's part of sibling words, and the refusals of a reading.
-ghost use Rattle.std.specs.Prelude.{◌≡◌, cond, [], ◌*◌, ◌/◌, ltb, length};
-ghost use Rattle.refusals.specs.Table.{first_refusal};
-ghost use Rattle.merkle.specs.Lists.{part};
-ghost use Rattle.reader_entries.specs.Readers.{read_refusals, read_words};
+// A level's part of sibling words, where nothing is refused.
+ghost use Rattle.std.specs.Prelude.{◌≡◌};
+ghost use Rattle.reader_entries.specs.Readers.{part_reply, words_given, read_reply, read_words};
 
 use parameters::ParameterSet;
+use refusals::Refusal;
 use trees::sets;
 
-// The number of the first refusal of a set, siblings and a level, or 0.
-pub fn refusal_of_read(set: ParameterSet, siblings: &[u64], level: u64) -> u8
-    ensures { result ≡ first_refusal (read_refusals set siblings.now level) }
+// The part for one level of these siblings, or the first refusal of a set, siblings and a level. Only that part is tested.
+pub fn part_of<'a>(set: ParameterSet, siblings: &'a [u64], level: u64) -> Result<&'a [u64], Refusal>
+    ensures { (part_reply result ≡ read_reply set siblings.now level) × (words_given result ≡ read_words set siblings.now level) }
 {
-    let number = state_entries::refusal_of(set);
-    if number != 0 {
-        return number;
-    }
+    state_entries::check(set)?;
     if siblings.len() != sets::opening_words(set) {
-        return 10;
+        return Err(Refusal::BadLength);
     }
     if set.height <= level {
-        return 11;
+        return Err(Refusal::BadPlace);
     }
     let words = sets::level_words(set, siblings, level);
     if !parameters::all_words(words) {
-        return 12;
+        return Err(Refusal::NotAWord);
     }
-    0
-}
-
-// The part of index i of `count` equal ones, and none where i is not below `count`.
-fn equal_part<'a>(words: &'a [u64], count: u64, i: u64) -> &'a [u64]
-    ensures { result.now ≡ cond (ltb i count) (part (i * (length words.now / count)) (length words.now / count) words.now) [] }
-{
-    if count <= i {
-        return &words[0..0];
-    }
-    let size = words.len() / count as usize;
-    trees::openings::cut(words, size, i as usize)
-}
-
-// The words that a reading gives, by its refusal's number or 0: none after a refusal. An opening is h equal parts, so nothing is presumed of
-// the siblings' length.
-pub fn words_of_read<'a>(
-    set: ParameterSet,
-    siblings: &'a [u64],
-    level: u64,
-    number: u8,
-) -> &'a [u64]
-    ensures { number ≡ first_refusal (read_refusals set siblings.now level) → result.now ≡ read_words set siblings.now level }
-{
-    if number != 0 {
-        return &siblings[0..0];
-    }
-    equal_part(siblings, set.height, level)
+    Ok(words)
 }

@@ -6,4 +6,4 @@ mod levels;
 pub mod reading;
 
 pub use copies::copy_level;
-pub use reading::{OpeningReader, Part, part_at, read_level, reader};
+pub use reading::{OpeningReader, part_at, read_level, reader};
