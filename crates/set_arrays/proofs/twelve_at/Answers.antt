@@ -1,7 +1,0 @@
-use mathlib.Core.Path.{◌∙◌}
-use Rattle.set_arrays.proofs.Begun.{part_over_zeros}
-use Rattle.set_arrays.proofs.twelve_at.Goals as goal
-
-pub returns : goal.returns
-returns c =
-    c.copy_words.ensures ∙ part_over_zeros 12 c.args.from c.args.numbers.now c.requires
