@@ -12,6 +12,10 @@ pub fits-requires : goal.fits-requires
 fits-requires c =
     (c.requires.0, words_of prime c.args.diagonal.now positive c.requires.2, c.requires.3)
 
+pub returns-then-not-fits : goal.returns-then-not-fits
+unfolding first_refusal kept_refusals bad_kept
+returns-then-not-fits c = simp (sym c.if-bad_diagonal.ensures, sym c.if-not-fits.ensures)
+
 pub returns-then-total_inverse-eq0 : goal.returns-then-total_inverse-eq0
 unfolding first_refusal kept_refusals
 returns-then-total_inverse-eq0 c =
