@@ -1,15 +1,15 @@
 // The extraction of a collision from two leaves that are both accepted at one place, under a set that is handed in.
 #![tactic(auto)]
 
-ghost use Rattle.std.specs.Prelude.{◌≡◌, not, ◌&&◌, [], ◌∷◌, ◌++◌};
+ghost use Rattle.std.specs.Prelude.{◌≡◌, not, [], ◌∷◌};
 ghost use Rattle.modular.specs.Arithmetic.{all_words};
 ghost use Rattle.refusals.specs.Table.{refusal, first_refusal};
 ghost use Rattle.refusals.specs.Answers.{refusal_number};
 ghost use Rattle.fields.specs.Prime.{prime};
 ghost use Rattle.parameters.specs.ParameterSet.{set_refusals};
 ghost use Rattle.merkle.specs.Openings.{accepts};
-ghost use Rattle.trees.specs.SetTrees.{tree_of_set, opening_words};
-ghost use Rattle.tree_entries.specs.Trees.{has, verify_refusals};
+ghost use Rattle.trees.specs.SetTrees.{tree_of_set};
+ghost use Rattle.tree_entries.specs.Trees.{verify_refusals};
 ghost use Rattle.extraction_entries.specs.Extraction.{extraction_reply, opens, pair, pair_of, pair_words, pair_fits, pair_refusals, extract_refusals, extract_reply, extracted_first, extracted_second};
 
 use parameters::ParameterSet;

@@ -5,15 +5,14 @@ use Prim.Native.Nat.{ℕ, ◌*◌, ◌^◌, ◌<◌}
 use lib.ListN.{length, replicate}
 use Rattle.parameters.specs.declared.ParameterSet.{ParameterSet}
 use Rattle.repeats.specs.Maps.{map_words}
-use Rattle.change_entries.specs.declared.changed.Changed.{Changed}
-use Rattle.change_entries.specs.Replacement.{changed_reply}
+use Rattle.refusals.specs.Table.{first_refusal, Reply}
 use Rattle.records.specs.declared.record.Record.{Record}
 use Rattle.records.specs.declared.tally.Tally.{Tally}
 use Rattle.push_entries.specs.Pushes.{push_reply, pushed}
 use Rattle.records.specs.Tests.{Pass, pass, keepable, Going}
 use Rattle.pushes.specs.Passes.{Rising, Sweeping, each_of, search_of, levels_of, sweep_of}
-use Rattle.push_entries.specs.Ends.{finish_of}
-use Rattle.push_entries.proofs.Passes.{begins, after_tests, after_search, after_marks, after_levels, pushes, first_asks, second_asks, third_asks, fourth_asks, fifth_asks}
+use Rattle.push_entries.specs.Ends.{early_refusals, finish_of}
+use Rattle.push_entries.proofs.Passes.{begins, after_tests, after_search, after_marks, after_levels, pushes, unrefused, first_asks, second_asks, third_asks, fourth_asks, fifth_asks}
 
 module _ (s : ParameterSet) (xs : List ℕ) (rs : List Record) (bytes : length rs * 56 < 2 ^ 63) (b : Tally) (begun : b ≡ begins s xs rs) where
   pub test_asks : Going s 0 (replicate keepable 0) b (length rs)
@@ -47,9 +46,14 @@ module _ (s : ParameterSet) (xs : List ℕ) (rs : List Record) (bytes : length r
           pub sweep_asks : Sweeping s zs w
           sweep_asks = fifth_asks s xs rs bytes v ys marked_tally same w zs h.0 long
 
-          pub is_pushed : (x : Tally) (ws : List ℕ) → (x ≡ (sweep_of s (pass w zs)).tally) × (ws ≡ (sweep_of s (pass w zs)).buffer)
-              → (r : Changed) → r ≡ finish_of x → (changed_reply r ≡ push_reply s xs rs) × (ws ≡ pushed s xs rs)
-          is_pushed x ws k r l =
-              let risen : pass w zs ≡ after_levels s xs rs = (λ i. pass (h.0 i) (h.1 i)) ∙ ap (levels_of s rs) marked in
-              let swept : pass x ws ≡ sweep_of s (after_levels s xs rs) = (λ i. pass (k.0 i) (k.1 i)) ∙ ap (sweep_of s) risen in
-              (ap changed_reply (l ∙ ap (λ (z : Pass). finish_of z.tally) swept) ∙ (pushes s xs rs).0, ap (λ (z : Pass). z.buffer) swept ∙ (pushes s xs rs).1)
+          module _ (x : Tally) (ws : List ℕ) (k : (x ≡ (sweep_of s (pass w zs)).tally) × (ws ≡ (sweep_of s (pass w zs)).buffer)) where
+            swept : pass x ws ≡ sweep_of s (after_levels s xs rs)
+            swept =
+                let risen : pass w zs ≡ after_levels s xs rs = (λ i. pass (h.0 i) (h.1 i)) ∙ ap (levels_of s rs) marked in
+                (λ i. pass (k.0 i) (k.1 i)) ∙ ap (sweep_of s) risen
+
+            pub finish_asks : first_refusal (early_refusals s xs (length rs)) ≡ 0 → x.number ≡ 0
+            finish_asks e = ap (λ (z : Pass). z.tally.number) swept ∙ unrefused s xs rs e
+
+            pub is_pushed : (r : Reply) → r ≡ finish_of x → (r ≡ push_reply s xs rs) × (ws ≡ pushed s xs rs)
+            is_pushed r l = (l ∙ ap (λ (z : Pass). finish_of z.tally) swept ∙ (pushes s xs rs).0, ap (λ (z : Pass). z.buffer) swept ∙ (pushes s xs rs).1)

@@ -1,13 +1,12 @@
 -- The refusals from 1 to 10, and what a push begins with.
-use mathlib.Core.Path.{◌≡◌, refl, sym, ap, ◌∙◌}
-use mathlib.Core.Logic.{◌≢◌}
+use mathlib.Core.Path.{◌≡◌, sym, ap, ◌∙◌}
 use mathlib.Core.Bool.{Bool, true, false, not, ◌&&◌}
 use mathlib.Core.List.{List, []}
-use Prim.Native.Nat.{ℕ, zero, suc, ◌*◌, ◌^◌}
+use Prim.Native.Nat.{ℕ, ◌*◌, ◌^◌}
 use lib.Dec.{lit<, leb}
 use Rattle.modular.specs.Arithmetic.{all_words}
 use Rattle.refusals.specs.Table.{first_refusal}
-use Rattle.refusals.proofs.Table.{Numbered, none as no-refusals, next, numbered_append, refusal_applies, refusal_passes, first_front, first_back}
+use Rattle.refusals.proofs.Table.{Numbered, none as no-refusals, next, numbered_append, refusal_applies, refusal_passes, first_back}
 use Rattle.parameters.specs.declared.ParameterSet.{ParameterSet}
 use Rattle.parameters.specs.ParameterSet.{prime_of, set_refusals}
 use Rattle.parameters.proofs.Accepted.{set-numbered}
@@ -32,10 +31,6 @@ module _ (s : ParameterSet) (store : List ℕ) (n : ℕ) where
   unfolding early_refusals
   early_numbered = numbered_append (set-numbered s) (next (lit< tt) no-refusals)
 
-  pub early_set : first_refusal (set_refusals s) ≢ 0 → first_refusal (early_refusals s store n) ≡ first_refusal (set_refusals s)
-  unfolding early_refusals
-  early_set o = first_front (set_refusals s) _ o
-
   pub early_ten : first_refusal (set_refusals s) ≡ 0 → bad_lengths ≡ true → first_refusal (early_refusals s store n) ≡ 10
   unfolding early_refusals
   early_ten z e = first_back (set_refusals s) _ (set-numbered s) z ∙ refusal_applies 10 bad_lengths _ e
@@ -43,12 +38,6 @@ module _ (s : ParameterSet) (store : List ℕ) (n : ℕ) where
   pub early_none : first_refusal (set_refusals s) ≡ 0 → bad_lengths ≡ false → first_refusal (early_refusals s store n) ≡ 0
   unfolding early_refusals first_refusal
   early_none z e = first_back (set_refusals s) _ (set-numbered s) z ∙ refusal_passes 10 bad_lengths [] e
-
-  pub begin_refused : (k : ℕ) → k ≢ 0 → first_refusal (early_refusals s store n) ≡ k
-      → record { number = k; places = 0; placed = true; words = true; distinct = true; rising = true; above = 0; few = false; kept = 0; levels = 0; before = 0; under = 0; made = 0 } ≡ begin_of s store n
-  unfolding begin_of
-  begin_refused zero o e = absurd (o refl)
-  begin_refused (suc k) o e = ap (λ (r : ℕ). begun r (leaf_count s) (all_words (prime_of s) store) (leb n keepable) by_records_lem k') (sym e)
 
   pub begin_clear : (m : ℕ) (w : Bool) (levels k : ℕ) → m ≡ leaf_count s → w ≡ all_words (prime_of s) store → levels ≡ by_records_lem → k ≡ k'
       → first_refusal (early_refusals s store n) ≡ 0

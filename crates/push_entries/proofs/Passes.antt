@@ -1,7 +1,7 @@
 -- The passes together give what `Pushes` says, whatever the set, the store and the records.
 use mathlib.Core.Path.{◌≡◌, refl, sym, ap, subst, ◌∙◌}
 use mathlib.Core.Logic.{◌≢◌, ◌⊎◌, inl, inr}
-use mathlib.Core.Bool.{Bool, true, false, not, ◌&&◌, false≢true, and-false, and_comm}
+use mathlib.Core.Bool.{Bool, true, false, cond, not, ◌&&◌, false≢true, and-false, and_comm}
 use mathlib.Core.List.{List, [], ◌∷◌, ◌++◌, append_assoc}
 use Prim.Native.Nat.{ℕ, zero, suc, ◌+◌, ◌*◌, ◌^◌, ◌≤◌, ◌<◌}
 use native.Mathlib.Nat.{mul-le-mul_right}
@@ -11,13 +11,18 @@ use lib.ListN.{length, replicate, length-replicate}
 use borrow.Author.Tests.{eq-eqb, ne_eqb, eqb-true, leb-true, not-false}
 use Rattle.modular.specs.Arithmetic.{all_words}
 use Rattle.modular.proofs.Words.{left_true, right_true, words_both}
+use Rattle.std.specs.Result.{IsErrAnd}
 use Rattle.refusals.specs.Table.{Refusal, refusal, first_refusal, not_words, refused}
-use Rattle.refusals.proofs.Table.{Numbered, none, next, numbered_append, refusal_applies, refusal_passes, refusal_none, first_front, first_back, first_none, refused_equations, done_equations}
+use Rattle.refusals.proofs.Table.{Numbered, none, next, numbered_append, refusal_applies, refusal_passes, refusal_none, first_front, first_back, first_none, front_answers, refused_equations, done_equations}
+use Rattle.refusals.specs.Answers.{Answer, number_of}
+use Rattle.refusals.specs.declared.Refusal.{Refusal as Refused}
+use Rattle.refusals.proofs.Answers.{nonzero, refusal_returned}
 use Rattle.refusals.proofs.LengthsPlacesAndWords.{twelve_first, twelve_passed}
 use Rattle.parameters.specs.declared.ParameterSet.{ParameterSet}
 use Rattle.parameters.specs.ParameterSet.{prime_of, set_refusals}
 use Rattle.parameters.proofs.Accepted.{set-numbered}
 use Rattle.merkle.specs.Numbering.{rows_before}
+use Rattle.merkle.specs.Replacement.{Counted}
 use Rattle.repeats.specs.Repeats.{repeats}
 use Rattle.repeats.specs.Maps.{map_words}
 use Rattle.repeats.proofs.Members.{member_none}
@@ -30,7 +35,7 @@ use Rattle.records.specs.declared.tally.Tally.{Tally}
 use Rattle.records.specs.Records.{places_of, places_below, used_words}
 use Rattle.push_entries.specs.Pushes.{push_refusals, pushing, push_reply, pushed}
 use Rattle.records.specs.Tests.{Pass, pass, keepable, test_of, is_clear, ranked, finding, wanted, room_of, Going}
-use Rattle.pushes.specs.Passes.{may_rise, counting, step_of, each_of, search_of, levels_by, by_records, levels_up_to, levels_of, sweep_of, Rising, Sweeping}
+use Rattle.pushes.specs.Passes.{may_write, may_rise, counting, wrote, rise_of, next_of, step_of, each_of, search_of, levels_by, by_records, levels_up_to, levels_of, sweep_of, Rising, Sweeping}
 use Rattle.passes.proofs.Tests.{Tested, tested_all, Seen, seen_all}
 use Rattle.passes.proofs.Searching.{search_none, search_finds, search_only}
 use Rattle.passes.proofs.Turns.{marks_tally, marks_none}
@@ -101,6 +106,25 @@ module _ (s : ParameterSet) where
   test_none [] t seen e = refl
   test_none (r ∷ rs) t seen e = ap (each_of s 0 rs) (test_stays r t seen e) ∙ test_none rs t seen e
 
+  -- what is written leaves the number
+  wrote_number : (b : Bool) (c : Counted) (u : Pass) → (cond b (wrote u.tally c) u).tally.number ≡ u.tally.number
+  wrote_number true c u = refl
+  wrote_number false c u = refl
+
+  level_number : (rs : List Record) (u : Pass) → (each_of s 2 rs u).tally.number ≡ u.tally.number
+  unfolding each_of step_of rise_of
+  level_number [] u = refl
+  level_number (r ∷ rs) u = level_number rs (step_of s 2 r u) ∙ wrote_number (may_write u.tally r.place) _ u
+
+  levels_number : (rs : List Record) (i : ℕ) (u : Pass) → (levels_up_to s rs i u).tally.number ≡ u.tally.number
+  unfolding levels_up_to next_of
+  levels_number rs zero u = refl
+  levels_number rs (suc i) u = level_number rs (levels_up_to s rs i u) ∙ levels_number rs i u
+
+  sweep_number : (u : Pass) → (sweep_of s u).tally.number ≡ u.tally.number
+  unfolding sweep_of
+  sweep_number u = wrote_number (may_rise u.tally) _ u
+
 -- ---- all of them
 
 module _ (s : ParameterSet) (xs : List ℕ) (ys : List Record) where
@@ -143,10 +167,10 @@ module _ (s : ParameterSet) (xs : List ℕ) (ys : List Record) where
 
   -- what the push claims of the tally and the store at its end
   abbrev Right : Pass → Type 0
-  Right u = (changed_reply (finish_of u.tally) ≡ push_reply s xs ys) × (u.buffer ≡ pushed s xs ys)
+  Right u = (finish_of u.tally ≡ push_reply s xs ys) × (u.buffer ≡ pushed s xs ys)
 
   -- a push that stops with a number
-  is_refused : (k : ℕ) (t : Tally) → Stopped t → changed_reply (finish_of t) ≡ refused k → k ≢ 0 → first_refusal (push_refusals s xs ys) ≡ k → Right (write s ys (pass t xs))
+  is_refused : (k : ℕ) (t : Tally) → Stopped t → finish_of t ≡ refused k → k ≢ 0 → first_refusal (push_refusals s xs ys) ≡ k → Right (write s ys (pass t xs))
   unfolding push_reply pushed
   is_refused k t S f o e =
       let E = refused_equations (push_refusals s xs ys) ((pushing s xs ys).made ∷ []) xs (pushing s xs ys).store k (sym e) o in
@@ -165,7 +189,7 @@ module _ (s : ParameterSet) (xs : List ℕ) (ys : List Record) where
     judged_early = ap (λ (u : Pass). search_of s ys u.tally) (test_none s ys t₁ room refused_early) ∙ search_none s ys t₁ (unwanted t₁ (unclear_early t₁ refused_early))
 
     stops_early : Right (write s ys (pass (judges t₁) xs))
-    unfolding finish_of changed_reply
+    unfolding finish_of
     stops_early =
         subst (λ (t : Tally). Right (write s ys (pass t xs))) (sym judged_early)
         (is_refused (suc k) t₁ (inl (unclear_early t₁ refused_early)) (rw refused_early) (λ y. absurd (omega (arith, y)))
@@ -185,7 +209,7 @@ module _ (s : ParameterSet) (xs : List ℕ) (ys : List Record) where
 
     -- 11 and 12 stop the push before the search
     at_11 : places_below n ys ≡ false → Right (write s ys (pass (judges (first 0)) xs))
-    unfolding finish_of changed_reply
+    unfolding finish_of
     at_11 f =
         let p : t₂.placed ≡ false = T.placed ∙ f in
         subst (λ (t : Tally). Right (write s ys (pass t xs))) (sym (search_none s ys t₂ (unwanted t₂ (unclear_places t₂ p))))
@@ -202,7 +226,7 @@ module _ (s : ParameterSet) (xs : List ℕ) (ys : List Record) where
       all_words_lem = words_both (prime_of s) used xs ∙ and_comm (all_words (prime_of s) used) (all_words (prime_of s) xs)
 
       at_12 : (all_words (prime_of s) xs && all_words (prime_of s) used) ≡ false → Right (write s ys (pass (judges (first 0)) xs))
-      unfolding finish_of changed_reply
+      unfolding finish_of
       at_12 f =
           let w : t₂.words ≡ false = T.words ∙ f in
           subst (λ (t : Tally). Right (write s ys (pass t xs))) (sym (search_none s ys t₂ (unwanted t₂ (unclear_words t₂ w))))
@@ -236,7 +260,7 @@ module _ (s : ParameterSet) (xs : List ℕ) (ys : List Record) where
             (subst (λ (m : ℕ). places_below m ys ≡ true) (sym T.places) below) all_seen
 
         at_17 : (b : Bool) → repeats (places_of ys) ≡ b → Right (write s ys (pass (finding t₂ (not b)) xs))
-        unfolding finish_of changed_reply push_reply pushed first_refusal early_refusals
+        unfolding finish_of push_reply pushed first_refusal early_refusals
         at_17 true f =
             is_refused 17 (finding t₂ false) (inr refl) (rw (clear_number, placed, T.words ∙ wordy)) (λ y. absurd (omega (arith, y)))
             (after_12 ∙ refusal_applies 17 (repeats (places_of ys)) [] f)
@@ -265,7 +289,7 @@ module _ (s : ParameterSet) (xs : List ℕ) (ys : List Record) where
               E.1,
             )
           where
-            finished : (t : Tally) (m : ℕ) → Clear t → changed_reply (finish_of (counting t m)) ≡ Rattle.refusals.specs.Table.done (m ∷ [])
+            finished : (t : Tally) (m : ℕ) → Clear t → finish_of (counting t m) ≡ Rattle.refusals.specs.Table.done (m ∷ [])
             finished t m C = rw (eq-eqb t.number 0 C.number, C.placed, C.words, C.distinct)
 
         searched : Right (write s ys (pass (judges (first 0)) xs))
@@ -305,15 +329,20 @@ module _ (s : ParameterSet) (xs : List ℕ) (ys : List Record) where
   pushes = by_early (first_refusal early_rows) refl
 
   -- an early refusal stops it at once
-  pub at_once : (t : Tally) → t ≡ begins → t.number ≢ 0 → (refused t.number ≡ push_reply s xs ys) × (xs ≡ pushed s xs ys)
-  unfolding begin_of push_reply pushed
-  at_once t e o = subst (λ (u : Tally). (refused u.number ≡ push_reply s xs ys) × (xs ≡ pushed s xs ys)) (sym e) (go (first_refusal early_rows) refl (subst (λ (u : Tally). u.number ≢ 0) e o))
-    where
-      go : (k : ℕ) → first_refusal early_rows ≡ k → (first k).number ≢ 0 → (refused (first k).number ≡ push_reply s xs ys) × (xs ≡ pushed s xs ys)
-      go zero f o = absurd (o refl)
-      go (suc k) f o =
-          refused_equations (push_refusals s xs ys) ((pushing s xs ys).made ∷ []) xs (pushing s xs ys).store (suc k)
-          (sym (ap first_refusal refusals_are ∙ first_front early_rows late (λ y. absurd (omega (arith, f, y))) ∙ f)) (λ y. absurd (omega (arith, y)))
+  pub at_once : (answer : Answer ℕ) (r : Refused) → IsErrAnd answer (λ e. e ≡ r) → number_of r ≡ first_refusal early_rows → (changed_reply answer ≡ push_reply s xs ys) × (xs ≡ pushed s xs ys)
+  unfolding push_reply pushed
+  at_once answer r i e =
+      refusal_returned (λ made. made ∷ []) answer r (push_refusals s xs ys) ((pushing s xs ys).made ∷ []) xs (pushing s xs ys).store i
+      (front_answers early_rows late e (nonzero r) ∙ sym (ap first_refusal refusals_are))
+
+  -- and where there is none its end has no number
+  pub unrefused : first_refusal early_rows ≡ 0 → (sweep_of s after_levels).tally.number ≡ 0
+  unfolding begin_of levels_of
+  unrefused e =
+      sweep_number s after_levels ∙ levels_number s ys (by_records after_marks.tally) after_marks
+      ∙ ap (λ (t : Tally). t.number) (marks_tally s ys (pass after_search xs))
+      ∙ ap (λ (t : Tally). t.number) (search_only s ys after_tests).1
+      ∙ (tested_all s ys begins room (ap (λ (k : ℕ). (first k).number) e)).number
 
   -- ---- what the passes presume
 

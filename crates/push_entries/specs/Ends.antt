@@ -2,13 +2,11 @@
 -- whole with `Pushes`.
 use Rattle.std.specs.Prelude.{Bool, true, false, cond, not, ◌&&◌, List, [], ◌∷◌, ◌++◌, ℕ, zero, suc, ◌*◌, ◌^◌, eqb, leb}
 use Rattle.modular.specs.Arithmetic.{all_words}
-use Rattle.refusals.specs.Table.{Refusal, refusal, first_refusal}
+use Rattle.refusals.specs.Table.{Refusal, refusal, first_refusal, Reply, refused, done}
 use Rattle.parameters.specs.declared.ParameterSet.{ParameterSet}
 use Rattle.parameters.specs.ParameterSet.{prime_of, set_refusals}
 use Rattle.trees.specs.SetTrees.{dimensions_of, leaf_count, store_words}
 use Rattle.tree_entries.specs.Trees.{has}
-use Rattle.change_entries.specs.declared.changed.Changed.{Changed}
-use Rattle.change_entries.specs.declared.changed.Changed.TheVariants.{Compressions, Refused}
 use Rattle.records.specs.declared.tally.Tally.{Tally}
 use Rattle.records.specs.Tests.{keepable}
 use Rattle.pushes.specs.Passes.{levels_by}
@@ -57,10 +55,10 @@ begin_of s store m =
     (levels_by (dimensions_of s).arity s.height (leaf_count s) (m * 8)) (dimensions_of s).arity
 
 -- the first refusal's number, or the count
-unfoldable pub finish_of : Tally → Changed
+unfoldable pub finish_of : Tally → Reply
 finish_of t =
     cond (eqb t.number 0)
     (cond t.placed
-    (cond t.words (cond t.distinct (Compressions t.made) (Refused 17)) (Refused 12))
-    (Refused 11))
-    (Refused t.number)
+    (cond t.words (cond t.distinct (done (t.made ∷ [])) (refused 17)) (refused 12))
+    (refused 11))
+    (refused t.number)

@@ -4,7 +4,7 @@ use Rattle.std.specs.Prelude.{◌≡◌, true, List, [], ◌∷◌, ℕ, ◌*◌
 use Rattle.refusals.specs.Table.{done}
 use Rattle.parameters.specs.declared.ParameterSet.{ParameterSet}
 use Rattle.merkle.specs.Above.{nodes_above}
-use Rattle.merkle.specs.Replacement.{Counted, changed, levelwise}
+use Rattle.merkle.specs.Replacement.{changed, levelwise}
 use Rattle.trees.specs.SetTrees.{tree_of_set}
 use Rattle.change_entries.specs.Replacement.{replace_reply, replaced}
 use Rattle.records.specs.declared.record.Record.{Record}
