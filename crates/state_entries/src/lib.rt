@@ -4,5 +4,5 @@
 pub mod sets;
 pub mod states;
 
-pub use sets::{check, refusal_of, validate};
+pub use sets::{check, validate};
 pub use states::{compress, permute, unpermute};

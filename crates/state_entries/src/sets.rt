@@ -37,13 +37,3 @@ pub fn check(set: ParameterSet) -> Result<(), Refusal>
 {
     parameters::check_set(&set)
 }
-
-// The number of the first refusal of a set that is handed in, or 0.
-pub fn refusal_of(set: ParameterSet) -> u8
-    ensures { result ≡ first_refusal (set_refusals set) }
-{
-    match check(set) {
-        Ok(()) => 0,
-        Err(refusal) => refusal.number(),
-    }
-}
