@@ -1,17 +1,34 @@
 // The generator of 64-bit numbers.
-use std::num::wrapping_add_u64;
 
 // where seed 0 starts
 const START: u64 = 88172645463325252;
 
-// The generator's number at its start.
-pub fn start(seed: u64) -> u64 {
-    wrapping_add_u64(START, seed)
+#[derive(Clone, Copy)]
+pub struct Generator {
+    last: u64,
 }
 
-// The generator's next number.
-pub fn next(x: u64) -> u64 {
-    let a = x ^ (x << 13);
-    let b = a ^ (a >> 7);
-    b ^ (b << 17)
+impl Generator {
+    pub fn new(seed: u64) -> Generator {
+        Generator {
+            last: START.wrapping_add(seed),
+        }
+    }
+
+    // The next number.
+    pub fn draw(&mut self) -> u64 {
+        self.last ^= self.last << 13;
+        self.last ^= self.last >> 7;
+        self.last ^= self.last << 17;
+        self.last
+    }
+}
+
+// All the numbers, without an end.
+impl Iterator for Generator {
+    type Item = u64;
+
+    fn next(&mut self) -> Option<u64> {
+        Some(self.draw())
+    }
 }

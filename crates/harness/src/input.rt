@@ -1,36 +1,43 @@
-// Decimal numbers of the program's input. One byte that is no digit stands after each number.
-use std::num::wrapping_add_u64;
+// The numbers of a program's input, in decimal. One byte that is no digit stands after each number.
+ghost use Rattle.std.specs.Prelude.{◌≤◌};
 
-#[derive(Clone, Copy)]
-pub struct Read {
-    pub value: u64,
-    // where the next number begins
-    pub next: usize,
+// What is left to read.
+#[derive(Drop)]
+pub struct Input<'a> {
+    rest: &'a [u8],
 }
 
-// A digit more, modulo 2^64.
-fn grown(value: u64, digit: u8) -> u64 {
-    let ten_times = wrapping_add_u64(value << 3, value << 1);
-    wrapping_add_u64(ten_times, (digit % 16) as u64)
-}
-
-// The number at a place of the input: 0 where there is none.
-pub fn number(input: &[u8], at: usize) -> Read {
-    let mut value = 0;
-    let mut i = at;
-    while i < input.len() {
-        let byte = input[i];
-        i += 1;
-        if byte < b'0' {
-            break;
-        }
-        if b'9' < byte {
-            break;
-        }
-        value = grown(value, byte);
+impl<'a> Input<'a> {
+    pub fn new(bytes: &'a [u8]) -> Input<'a> {
+        Input { rest: bytes }
     }
-    Read {
-        value: value,
-        next: i,
+
+    // The next number, modulo 2^64: 0 where there is none.
+    pub fn number(&mut self) -> u64 {
+        self.digits().iter().fold(0u64, |number, digit| {
+            number.wrapping_mul(10).wrapping_add(u64::from(*digit % 16))
+        })
+    }
+
+    // The next number, or `most` where that is less.
+    pub fn count(&mut self, most: usize) -> usize
+        ensures { result ≤ most }
+    {
+        self.number().min(most as u64) as usize
+    }
+
+    // The digits before the next byte that is none, which is passed over.
+    fn digits(&mut self) -> &'a [u8] {
+        let rest = self.rest;
+        match rest.iter().position(|byte| !byte.is_ascii_digit()) {
+            Some(end) => {
+                self.rest = &rest[end + 1..];
+                &rest[..end]
+            }
+            None => {
+                self.rest = &rest[rest.len()..];
+                rest
+            }
+        }
     }
 }

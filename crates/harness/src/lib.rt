@@ -1,13 +1,13 @@
-// What the programs `vectors`, `tree_vectors`, `history_vectors`, `file_vectors` and `set_vectors` read and write by: lines of text, the
-// numbers of their input, drawn numbers, lists of them, sets, answers, and calls of the entries of trees on what a line of the input holds.
+// What the programs `vectors`, `tree_vectors`, `history_vectors`, `file_vectors` and `set_vectors` read and write by: the numbers of their
+// input, drawn numbers, lists of them, sets, answers in words, and calls of the entries of trees on what a line of the input holds.
 #![tactic(auto)]
 
 pub mod answers;
-pub mod entries;
+pub mod calls;
 pub mod generator;
 pub mod handed;
-pub mod held;
 pub mod input;
 pub mod lists;
-pub mod output;
+pub mod printing;
 pub mod replacements;
+pub mod shown;

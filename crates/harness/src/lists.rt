@@ -1,141 +1,128 @@
-// Lists of numbers, in buffers that have places for the longest.
-ghost use Rattle.std.specs.Prelude.{◌≤◌};
+// Lists of numbers, in arrays that have places for the longest.
+ghost use Rattle.std.specs.Prelude.{◌≤◌, length};
 
-use crate::{generator, input, output};
-use std::num::{wrapping_add_u64, wrapping_sub_u64};
-use streams::Output;
+use crate::generator::Generator;
+use crate::input::Input;
 
-// How many of a buffer's places the list has, and where the number after it begins.
+// A list of at most N numbers. The places beyond it hold numbers too, which are not of the list.
 #[derive(Clone, Copy)]
-pub struct Taken {
-    pub count: usize,
-    pub next: usize,
+pub struct List<const N: usize> {
+    places: [u64; N],
+    count: usize,
+    ghost within: { count ≤ N },
 }
 
-// The count, or the number of places where that is less.
-pub fn clamped(count: u64, places: usize) -> usize
-    ensures { result ≤ places }
+impl<const N: usize> List<N> {
+    // One number, `count` times: N times where that is less.
+    pub fn of(number: u64, count: usize) -> List<N> {
+        List {
+            places: [number; N],
+            count: count.min(N),
+        }
+    }
+
+    // Drawn words, and 0 in the places beyond.
+    pub fn drawn(count: usize, seed: u64) -> List<N> {
+        let mut list = List::of(0, count);
+        draw(list.as_mut_slice(), seed);
+        list
+    }
+
+    // The input's next list (`read`).
+    pub fn read(input: &mut Input<'_>) -> List<N> {
+        let mut places = [0; N];
+        let count = read(input, &mut places, 0);
+        List { places, count }
+    }
+
+    pub fn as_slice(&self) -> &[u64] {
+        &self.places[..self.count]
+    }
+
+    pub fn as_mut_slice(&mut self) -> &mut [u64] {
+        let count = self.count;
+        let places = &mut self.places;
+        &mut places[..count]
+    }
+
+    // All places, those beyond the list too.
+    pub fn places(&self) -> &[u64; N] {
+        &self.places
+    }
+
+    pub fn places_mut(&mut self) -> &mut [u64; N] {
+        &mut self.places
+    }
+}
+
+// The word that a number of 64 bits is drawn for.
+pub fn word_of(number: u64) -> u64 {
+    number % fields::order()
+}
+
+// Drawn words.
+fn draw(list: &mut [u64], seed: u64) {
+    for (place, number) in list.iter_mut().zip(Generator::new(seed)) {
+        *place = word_of(number);
+    }
+}
+
+// The input's next list: its count, its seed, and the runs that are written over the drawn words. How many numbers it has: all places, where
+// the count is greater.
+pub fn read(input: &mut Input<'_>, places: &mut [u64], beyond: u64) -> usize
+    ensures { result ≤ length places.new }
 {
-    if count < places as u64 {
-        count as usize
-    } else {
-        places
-    }
-}
-
-// A number's word.
-fn word_of(x: u64) -> u64 {
-    x % fields::order()
-}
-
-// Drawn words, and another number in the places beyond them.
-pub fn draw(list: &mut [u64], count: usize, seed: u64, beyond: u64) {
-    let mut x = generator::start(seed);
-    for i in 0..list.len() {
-        x = generator::next(x);
-        list[i] = if i < count { word_of(x) } else { beyond };
-    }
-}
-
-// A value at a place, if the list has it.
-pub fn put(list: &mut [u64], place: u64, value: u64) {
-    if place < list.len() as u64 {
-        list[place as usize] = value;
-    }
-}
-
-// The values of a run, from a place on.
-fn read_values(input: &[u8], at: usize, list: &mut [u64], place: u64, count: u64) -> usize {
-    let mut next = at;
-    for i in 0..count {
-        let read = input::number(input, next);
-        next = read.next;
-        put(list, wrapping_add_u64(place, i), read.value);
-    }
-    next
+    let count = input.count(places.len());
+    draw(&mut places[..count], input.number());
+    places[count..].fill(beyond);
+    read_runs(input, places);
+    count
 }
 
 // Runs, each written from its place on.
-pub fn read_runs(input: &[u8], at: usize, list: &mut [u64]) -> usize {
-    let runs = input::number(input, at);
-    let mut next = runs.next;
-    for _ in 0..runs.value {
-        let place = input::number(input, next);
-        let count = input::number(input, place.next);
-        next = read_values(input, count.next, list, place.value, count.value);
-    }
-    next
-}
-
-// A list: its count, its seed, and the runs that are written over the drawn words.
-pub fn read(input: &[u8], at: usize, list: &mut [u64], beyond: u64) -> Taken {
-    let count = input::number(input, at);
-    let seed = input::number(input, count.next);
-    let taken = clamped(count.value, list.len());
-    draw(list, taken, seed.value, beyond);
-    let next = read_runs(input, seed.next, list);
-    Taken {
-        count: taken,
-        next: next,
+pub fn read_runs(input: &mut Input<'_>, places: &mut [u64]) {
+    for _ in 0..input.number() {
+        read_run(input, places);
     }
 }
 
-// The first numbers of a buffer.
-pub fn part(list: &[u64], count: usize) -> &[u64] {
-    if count <= list.len() {
-        return &list[..count];
-    }
-    list
-}
-
-// What follows the first numbers of a buffer.
-pub fn rest(list: &[u64], count: usize) -> &[u64] {
-    if count <= list.len() {
-        return &list[count..];
-    }
-    &list[..0]
-}
-
-// The numbers of another list, from a place on, where the list has such places.
-pub fn write(list: &mut [u64], place: u64, other: &[u64]) {
-    for i in 0..other.len() {
-        put(list, wrapping_add_u64(place, i as u64), other[i]);
+// The values of a run, from its place on.
+fn read_run(input: &mut Input<'_>, places: &mut [u64]) {
+    let first = input.number();
+    for i in 0..input.number() {
+        put(places, first.wrapping_add(i), input.number());
     }
 }
 
-// The word after the one at a place, there.
-pub fn damage(list: &mut [u64], place: usize) {
-    if place < list.len() {
-        let word = list[place];
-        list[place] = word_of(wrapping_add_u64(word, 1));
+// A number at a place, if there is such a place.
+pub fn put(places: &mut [u64], place: u64, number: u64) {
+    if let Some(held) = places.get_mut(place as usize) {
+        *held = number;
     }
+}
+
+// The numbers of a list from a place on, in the places that there are.
+pub fn write(places: &mut [u64], first: usize, numbers: &[u64]) {
+    for (place, number) in places.iter_mut().skip(first).zip(numbers) {
+        *place = *number;
+    }
+}
+
+// The first numbers of a list, as many as are asked for and there are, and the others.
+pub fn split(numbers: &[u64], count: usize) -> (&[u64], &[u64]) {
+    let end = count.min(numbers.len());
+    (&numbers[..end], &numbers[end..])
 }
 
 // The digest goes on over a list: 31 d + x modulo 2^64, for each number x.
-pub fn digest(from: u64, list: &[u64]) -> u64 {
-    let mut d = from;
-    for i in 0..list.len() {
-        d = wrapping_add_u64(wrapping_sub_u64(d << 5, d), list[i]);
-    }
-    d
+pub fn digest_after(before: u64, numbers: &[u64]) -> u64 {
+    numbers.iter().fold(
+        before,
+        |digest, number| digest.wrapping_mul(31).wrapping_add(*number),
+    )
 }
 
-// Whether two lists are the same.
-pub fn same(a: &[u64], b: &[u64]) -> bool {
-    if a.len() != b.len() {
-        return false;
-    }
-    for i in 0..a.len() {
-        if a[i] != b[i] {
-            return false;
-        }
-    }
-    true
-}
-
-// The numbers, each after a space.
-pub fn print(out: &mut Output, list: &[u64]) {
-    for i in 0..list.len() {
-        output::operand(out, list[i]);
-    }
+// The digest of a list.
+pub fn digest(numbers: &[u64]) -> u64 {
+    digest_after(1, numbers)
 }

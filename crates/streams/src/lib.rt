@@ -5,6 +5,7 @@ ghost use Rattle.std.specs.Prelude.{◌≡◌, ◌<◌, ◌≤◌, length, take,
 ghost use Rattle.streams.specs.declared.TheConstants.{CAPACITY};
 ghost use Rattle.std.specs.Io.KnownBytes.{Consumes, IsAtEnd};
 
+use std::fmt;
 use std::io;
 use std::io::{Print, Read, Stdout};
 
@@ -27,7 +28,7 @@ pub fn read_full<R: Read>(from: &mut R, buffer: &mut [u8]) -> io::Result<usize>
 
 const CAPACITY: usize = 4096;
 
-// Standard output. After a write that failed nothing more is written, and `flush` gives the error.
+// Standard output, with a fixed buffer before it. After a write that failed nothing more is written, and `flush` gives the error.
 #[derive(Drop)]
 pub struct Output {
     stdout: Stdout,
@@ -45,20 +46,6 @@ impl Output {
             count: 0,
             failed: None,
         }
-    }
-
-    pub fn write(&mut self, bytes: &[u8]) {
-        for byte in bytes {
-            self.push(*byte);
-        }
-    }
-
-    // The digits before the last, and the last.
-    pub fn write_decimal(&mut self, number: u64) {
-        if number >= 10 {
-            self.write_decimal(number / 10);
-        }
-        self.push(b'0' + (number % 10) as u8);
     }
 
     // Writes what waits. The error is that of the first write that failed.
@@ -86,5 +73,18 @@ impl Output {
         if self.failed.is_none() {
             self.failed = self.stdout.write_all(&self.waiting[..count]).err();
         }
+    }
+}
+
+// Text is written by `write!`, which gives an error once a write has failed.
+impl fmt::Write for Output {
+    fn write_str(&mut self, text: &str) -> fmt::Result {
+        for byte in text.as_bytes() {
+            self.push(*byte);
+        }
+        if self.failed.is_some() {
+            return Err(fmt::Error);
+        }
+        Ok(())
     }
 }

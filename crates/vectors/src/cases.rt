@@ -1,35 +1,42 @@
 // The cases of the program's input, a line each. The module docstring of reference/cases.py has the input's grammar.
 use crate::{sets_section, states_section};
-use harness::{input, output};
+use harness::input::Input;
+use harness::shown::Manner;
+use std::fmt;
+use std::fmt::Write;
 use streams::Output;
 
-fn header(out: &mut Output, input: &[u8], at: usize) -> usize {
-    let section = input::number(input, at);
-    let which = section.value;
-    match which {
-        0 => output::text(out, b"section sets\n"),
-        _ => output::text(out, b"section states\n"),
-    }
-    section.next
+// What a line is, by its first number.
+#[derive(Clone, Copy)]
+enum Line {
+    Header,
+    Set,
+    State(Manner),
 }
 
-// One line, whose first number says what it is. Where the next line begins.
-fn line(out: &mut Output, input: &[u8], at: usize) -> usize {
-    let first = input::number(input, at);
-    let what = first.value;
-    match what {
-        0 => header(out, input, first.next),
-        1 => sets_section::case(out, input, first.next),
-        2 => states_section::case(out, true, input, first.next),
-        _ => states_section::case(out, false, input, first.next),
+impl From<u64> for Line {
+    fn from(number: u64) -> Line {
+        match number {
+            0 => Line::Header,
+            1 => Line::Set,
+            2 => Line::State(Manner::InFull),
+            _ => Line::State(Manner::Digest),
+        }
     }
 }
 
-// The first number says how many lines follow.
-pub fn print(out: &mut Output, input: &[u8]) {
-    let lines = input::number(input, 0);
-    let mut at = lines.next;
-    for _ in 0..lines.value {
-        at = line(out, input, at);
+fn header(out: &mut Output, input: &mut Input<'_>) -> fmt::Result {
+    match input.number() {
+        0 => writeln!(out, "section sets"),
+        _ => writeln!(out, "section states"),
+    }
+}
+
+// One line.
+pub fn case(out: &mut Output, input: &mut Input<'_>) -> fmt::Result {
+    match Line::from(input.number()) {
+        Line::Header => header(out, input),
+        Line::Set => sets_section::case(out, input),
+        Line::State(manner) => states_section::case(out, input, manner),
     }
 }

@@ -7,15 +7,10 @@ mod field_section;
 mod sets_section;
 mod states_section;
 
+use harness::printing;
 use std::io;
-use streams::Output;
 
 fn main(rt: HostRuntime) -> io::Result<()> {
-    let mut out = Output::new(rt.stdout());
-    field_section::print(&mut out);
-    out.flush()?;
-    let mut buffer = [0u8; 65536];
-    let count = streams::read_full(&mut rt.stdin(), &mut buffer)?;
-    cases::print(&mut out, &buffer[..count]);
-    out.flush()
+    printing::print(&rt, field_section::print)?;
+    printing::answer(&rt, cases::case)
 }

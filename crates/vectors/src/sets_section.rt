@@ -1,25 +1,20 @@
 // The section `sets`: what validation answers.
-use harness::{answers, handed, output};
-use parameters::Validation;
+use harness::handed::Numbers;
+use harness::input::Input;
+use harness::{answers, handed};
+use std::fmt;
+use std::fmt::Write;
 use streams::Output;
 
-fn answer(out: &mut Output, validation: Validation) {
-    let number = validation.number;
-    if number != 0 {
-        answers::refused(out, number);
-        return;
+// One case.
+pub fn case(out: &mut Output, input: &mut Input<'_>) -> fmt::Result {
+    let numbers = Numbers::read(input);
+    match answers::set(handed::validate(input, numbers)) {
+        Ok(set) => writeln!(
+            out,
+            "{numbers} validate accepted {}",
+            handed::digest_of(&set)
+        ),
+        Err(refused) => writeln!(out, "{numbers} validate {refused}"),
     }
-    output::text(out, b" accepted");
-    output::operand(out, handed::digest_of(validation.parameters));
-}
-
-// One case. Where the next line begins.
-pub fn case(out: &mut Output, input: &[u8], at: usize) -> usize {
-    let numbers = handed::read_numbers(input, at);
-    let validated = handed::validate(input, numbers);
-    handed::print_numbers(out, numbers);
-    output::text(out, b" validate");
-    answer(out, validated.validation);
-    output::end_line(out);
-    validated.next
 }
