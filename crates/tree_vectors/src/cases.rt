@@ -1,38 +1,50 @@
 // The cases of the program's input, a line each. The module docstring of reference/tree_cases.py has the input's grammar.
 use crate::{extractions_section, trees_section};
-use harness::{held, input, output, replacements};
+use harness::input::Input;
+use harness::shown::Manner;
+use harness::{calls, replacements};
+use std::fmt;
+use std::fmt::Write;
 use streams::Output;
 
-fn header(out: &mut Output, input: &[u8], at: usize) -> usize {
-    let section = input::number(input, at);
-    let which = section.value;
-    match which {
-        0 => output::text(out, b"section trees\n"),
-        1 => output::text(out, b"section replacements\n"),
-        _ => output::text(out, b"section extractions\n"),
-    }
-    section.next
+// What a line is, by its first number.
+#[derive(Clone, Copy)]
+enum Line {
+    Header,
+    Tree(Manner),
+    Calls,
+    Replacements,
+    Extraction,
 }
 
-// One line, whose first number says what it is. Where the next line begins.
-fn line(out: &mut Output, input: &[u8], at: usize) -> usize {
-    let first = input::number(input, at);
-    let what = first.value;
-    match what {
-        0 => header(out, input, first.next),
-        1 => trees_section::tree(out, true, input, first.next),
-        2 => trees_section::tree(out, false, input, first.next),
-        3 => held::case(out, input, first.next),
-        4 => replacements::case(out, input, first.next),
-        _ => extractions_section::case(out, input, first.next),
+impl From<u64> for Line {
+    fn from(number: u64) -> Line {
+        match number {
+            0 => Line::Header,
+            1 => Line::Tree(Manner::InFull),
+            2 => Line::Tree(Manner::Digest),
+            3 => Line::Calls,
+            4 => Line::Replacements,
+            _ => Line::Extraction,
+        }
     }
 }
 
-// The first number says how many lines follow.
-pub fn print(out: &mut Output, input: &[u8]) {
-    let lines = input::number(input, 0);
-    let mut at = lines.next;
-    for _ in 0..lines.value {
-        at = line(out, input, at);
+fn header(out: &mut Output, input: &mut Input<'_>) -> fmt::Result {
+    match input.number() {
+        0 => writeln!(out, "section trees"),
+        1 => writeln!(out, "section replacements"),
+        _ => writeln!(out, "section extractions"),
+    }
+}
+
+// One line.
+pub fn case(out: &mut Output, input: &mut Input<'_>) -> fmt::Result {
+    match Line::from(input.number()) {
+        Line::Header => header(out, input),
+        Line::Tree(manner) => trees_section::case(out, input, manner),
+        Line::Calls => calls::case(out, input),
+        Line::Replacements => replacements::case(out, input),
+        Line::Extraction => extractions_section::case(out, input),
     }
 }

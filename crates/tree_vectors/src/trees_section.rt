@@ -1,249 +1,134 @@
 // The section `trees`: stores, roots, openings and verdicts, under a set that is handed in as it is.
-use harness::{answers, entries, handed, input, lists, output};
+ghost use Rattle.std.specs.Prelude.{◌<◌, length};
+
+use harness::answers::{Said, Sizes};
+use harness::input::Input;
+use harness::lists::List;
+use harness::shown::Manner;
+use harness::{answers, handed, lists};
 use opening_tree::Verdict;
 use parameters::ParameterSet;
-use std::num::wrapping_add_u64;
+use std::fmt;
+use std::fmt::Write;
 use streams::Output;
-
-// How many verdicts of some were either.
-#[derive(Clone, Copy)]
-struct Verdicts {
-    accepted: u64,
-    rejected: u64,
-}
-
-// The numbers of a tree's line after the leaves, and where the next line begins.
-#[derive(Clone, Copy)]
-struct Sizes {
-    store: usize,
-    siblings: usize,
-    places: u64,
-    next: usize,
-}
-
-fn read_sizes(input: &[u8], at: usize) -> Sizes {
-    let store = input::number(input, at);
-    let siblings = input::number(input, store.next);
-    let places = input::number(input, siblings.next);
-    Sizes {
-        store: lists::clamped(store.value, 1024),
-        siblings: lists::clamped(siblings.value, 1024),
-        places: places.value,
-        next: places.next,
-    }
-}
 
 // The verdict on a root, a leaf and siblings that stand one after another.
 fn verdict_on(set: ParameterSet, place: u64, words: &[u64], node_size: usize) -> Verdict {
-    let after = lists::rest(words, node_size);
-    opening_tree::verify(
-        set,
-        lists::part(words, node_size),
-        place,
-        lists::part(after, node_size),
-        lists::rest(after, node_size),
-    )
+    let (root, opened) = lists::split(words, node_size);
+    let (leaf, siblings) = lists::split(opened, node_size);
+    opening_tree::verify(set, root, place, leaf, siblings)
 }
 
-fn is_accepted(verdict: Verdict) -> u64 {
-    match verdict {
-        Verdict::Accepted => 1,
-        _ => 0,
-    }
+// The verdict with the word at one index damaged: the word after it stands there.
+fn damaged_verdict(
+    set: ParameterSet,
+    place: u64,
+    words: &mut [u64],
+    at: usize,
+    node_size: usize,
+) -> Verdict
+    requires { at < length words.old }
+{
+    let word = words[at];
+    words[at] = lists::word_of(word.wrapping_add(1));
+    let verdict = verdict_on(set, place, words, node_size);
+    words[at] = word;
+    verdict
 }
 
-fn is_rejected(verdict: Verdict) -> u64 {
-    match verdict {
-        Verdict::Rejected => 1,
-        _ => 0,
-    }
-}
-
-fn with_damage(words: [u64; 1024], at: usize) -> [u64; 1024] {
-    let mut damaged = words;
-    lists::damage(&mut damaged, at);
-    damaged
-}
-
-// The verdicts with each of the words damaged in turn.
+// How many of the words are accepted and how many rejected with one of them damaged, each in turn.
 fn damaged_verdicts(
     set: ParameterSet,
     place: u64,
-    words: [u64; 1024],
-    count: usize,
+    words: &mut [u64],
     node_size: usize,
-) -> Verdicts {
-    let mut accepted = 0;
-    let mut rejected = 0;
-    for i in 0..count {
-        let damaged = with_damage(words, i);
-        let verdict = verdict_on(set, place, lists::part(&damaged, count), node_size);
-        accepted = wrapping_add_u64(accepted, is_accepted(verdict));
-        rejected = wrapping_add_u64(rejected, is_rejected(verdict));
+) -> (u64, u64) {
+    let mut accepted: u64 = 0;
+    let mut rejected: u64 = 0;
+    for at in 0..words.len() {
+        match damaged_verdict(set, place, words, at, node_size) {
+            Verdict::Accepted => accepted = accepted.wrapping_add(1),
+            Verdict::Rejected => rejected = rejected.wrapping_add(1),
+            Verdict::Refused(_) => {}
+        }
     }
-    Verdicts {
-        accepted: accepted,
-        rejected: rejected,
-    }
+    (accepted, rejected)
 }
 
-// The verdict on words that stand one after another, and how many are accepted and rejected with a word damaged.
-fn print_verdicts(
-    out: &mut Output,
+// A tree as its line gives it and the entries made it, and how it is printed.
+#[derive(Clone, Copy)]
+struct Tree<'a> {
     set: ParameterSet,
-    place: u64,
-    words: [u64; 1024],
-    count: usize,
-    node_size: usize,
-) {
-    entries::print_verdict(
-        out,
-        verdict_on(set, place, lists::part(&words, count), node_size),
-    );
-    let damaged = damaged_verdicts(set, place, words, count, node_size);
-    output::text(out, b" damaged");
-    output::operand(out, damaged.accepted);
-    output::operand(out, damaged.rejected);
-}
-
-// A root, a leaf and siblings, one after another.
-fn joined(root: &[u64], leaf: &[u64], siblings: &[u64]) -> [u64; 1024] {
-    let node_size = root.len() as u64;
-    let mut words = [0u64; 1024];
-    lists::write(&mut words, 0, root);
-    lists::write(&mut words, node_size, leaf);
-    lists::write(&mut words, wrapping_add_u64(node_size, node_size), siblings);
-    words
-}
-
-// One place's line: its opening, and the verdicts on it.
-fn place_line(
-    out: &mut Output,
-    manner: u64,
-    set: ParameterSet,
-    store: &[u64],
-    place: u64,
-    root: &[u64],
-    leaf: &[u64],
+    manner: Manner,
+    leaves: &'a [u64],
+    store: &'a [u64],
+    root: &'a [u64],
+    // how many words an opening has
     siblings: usize,
-) {
-    output::text(out, b"place");
-    output::operand(out, place);
-    output::text(out, b" open");
-    let opening = entries::run(
-        out,
-        manner,
-        entries::OPEN,
-        set,
-        store,
-        place,
-        [7u64; 1024],
-        siblings,
-    );
-    let words = joined(root, leaf, lists::part(&opening, siblings));
-    let node_size = root.len() as u64;
-    let both = wrapping_add_u64(node_size, node_size);
-    let count = lists::clamped(wrapping_add_u64(both, siblings as u64), 1024);
-    output::text(out, b" verify");
-    print_verdicts(out, set, place, words, count, root.len());
-    output::end_line(out);
+}
+
+// The tree's root, a leaf and siblings, one after another.
+fn joined(root: &[u64], leaf: &[u64], siblings: &[u64]) -> List<1024> {
+    let both = root.len().saturating_add(root.len());
+    let mut list = List::of(0, both.saturating_add(siblings.len()));
+    let words = list.as_mut_slice();
+    lists::write(words, 0, root);
+    lists::write(words, root.len(), leaf);
+    lists::write(words, both, siblings);
+    list
+}
+
+// One place's line: its opening, the verdict on it, and those with each of the words damaged.
+fn place_line(out: &mut Output, tree: Tree<'_>, place: u64, leaf: &[u64]) -> fmt::Result {
+    write!(out, "place {place}")?;
+    let empty = List::<1024>::of(7, tree.siblings);
+    let opening = answers::call(out, tree.manner, "open", &empty, |siblings| {
+        opening_tree::open(tree.set, tree.store, place, siblings)
+    })?;
+    let node_size = tree.root.len();
+    let mut words = joined(tree.root, leaf, opening.as_slice());
+    let verdict = Said(verdict_on(tree.set, place, words.as_slice(), node_size));
+    let (accepted, rejected) = damaged_verdicts(tree.set, place, words.as_mut_slice(), node_size);
+    writeln!(out, " verify{verdict} damaged {accepted} {rejected}")
 }
 
 // A line for each place.
-fn place_lines(
-    out: &mut Output,
-    manner: u64,
-    set: ParameterSet,
-    leaves: &[u64],
-    store: &[u64],
-    root: &[u64],
-    siblings: usize,
-    places: u64,
-) {
-    let mut at = 0;
+fn place_lines(out: &mut Output, tree: Tree<'_>, places: u64) -> fmt::Result {
+    let mut left = tree.leaves;
     for place in 0..places {
-        let leaf = lists::part(lists::rest(leaves, lists::clamped(at, 1024)), root.len());
-        place_line(out, manner, set, store, place, root, leaf, siblings);
-        at = wrapping_add_u64(at, root.len() as u64);
+        let (leaf, others) = lists::split(left, tree.root.len());
+        place_line(out, tree, place, leaf)?;
+        left = others;
     }
+    Ok(())
 }
 
-// The root that an entry writes, in full.
-fn root_by(
-    out: &mut Output,
-    entry: u64,
-    set: ParameterSet,
-    from: &[u64],
-    node_size: usize,
-) -> [u64; 1024] {
-    entries::run(
-        out,
-        answers::IN_FULL,
-        entry,
+// One tree, in full or not: the sizes, the store, the root of it and without it, and the places' lines.
+pub fn case(out: &mut Output, input: &mut Input<'_>, manner: Manner) -> fmt::Result {
+    let (numbers, set) = handed::read_set(input);
+    let leaves = List::<1024>::read(input);
+    let empty_store = List::<1024>::of(7, input.count(1024));
+    let siblings = input.count(1024);
+    let places = input.number();
+    let empty_root = List::<1024>::of(7, set.node_size.min(1024) as usize);
+    write!(out, "{numbers}{}", Sizes(opening_tree::sizes(set)))?;
+    let store = answers::call(out, manner, "build", &empty_store, |store| {
+        opening_tree::build(set, leaves.as_slice(), store)
+    })?;
+    let root = answers::call(out, Manner::InFull, "root", &empty_root, |root| {
+        opening_tree::root(set, store.as_slice(), root)
+    })?;
+    answers::call(out, Manner::InFull, "storeless_root", &empty_root, |root| {
+        opening_tree::storeless_root(set, leaves.as_slice(), root)
+    })?;
+    writeln!(out)?;
+    let tree = Tree {
         set,
-        from,
-        0,
-        [7u64; 1024],
-        node_size,
-    )
-}
-
-// The sizes, the store, the root of it and without it, and the places' lines.
-fn tree_lines(out: &mut Output, manner: u64, set: ParameterSet, leaves: &[u64], sizes: Sizes) {
-    let node_size = lists::clamped(set.node_size, 1024);
-    entries::print_sizes(out, set);
-    output::text(out, b" build");
-    let words = entries::run(
-        out,
         manner,
-        entries::BUILD,
-        set,
-        leaves,
-        0,
-        [7u64; 1024],
-        sizes.store,
-    );
-    let store = lists::part(&words, sizes.store);
-    output::text(out, b" root");
-    let root = root_by(out, entries::ROOT, set, store, node_size);
-    output::text(out, b" storeless_root");
-    root_by(out, entries::STORELESS_ROOT, set, leaves, node_size);
-    output::end_line(out);
-    place_lines(
-        out,
-        manner,
-        set,
-        leaves,
-        store,
-        lists::part(&root, node_size),
-        sizes.siblings,
-        sizes.places,
-    );
-}
-
-fn manner_of(is_full: bool) -> u64 {
-    if is_full {
-        answers::IN_FULL
-    } else {
-        answers::DIGEST
-    }
-}
-
-// One tree, in full or not. Where the next line begins.
-pub fn tree(out: &mut Output, is_full: bool, input: &[u8], at: usize) -> usize {
-    let numbers = handed::read_numbers(input, at);
-    let given = handed::read_set(input, numbers);
-    let set = given.set;
-    let mut leaves = [0u64; 1024];
-    let list = lists::read(input, given.next, &mut leaves, 0);
-    let sizes = read_sizes(input, list.next);
-    handed::print_numbers(out, numbers);
-    tree_lines(
-        out,
-        manner_of(is_full),
-        set,
-        lists::part(&leaves, list.count),
-        sizes,
-    );
-    sizes.next
+        leaves: leaves.as_slice(),
+        store: store.as_slice(),
+        root: root.as_slice(),
+        siblings,
+    };
+    place_lines(out, tree, places)
 }
