@@ -1,78 +1,64 @@
 // Replacements and pushes, one after another on a store.
-use harness::{entries, input, lists, output};
-use opening_tree::Changed;
+use harness::answers::Compressions;
+use harness::input::Input;
+use harness::lists;
+use harness::lists::List;
 use parameters::ParameterSet;
+use std::fmt;
+use std::fmt::Write;
 use streams::Output;
 
-// What a call answered, and where the next one begins.
+// What a call is, by its first number.
 #[derive(Clone, Copy)]
-struct Called {
-    changed: Changed,
-    next: usize,
+enum Kind {
+    Replace,
+    Push,
+}
+
+impl From<u64> for Kind {
+    fn from(number: u64) -> Kind {
+        match number {
+            0 => Kind::Replace,
+            _ => Kind::Push,
+        }
+    }
 }
 
 fn replace(
     out: &mut Output,
-    input: &[u8],
-    at: usize,
+    input: &mut Input<'_>,
     set: ParameterSet,
     store: &mut [u64],
-) -> Called {
-    let place = input::number(input, at);
-    let mut words = [0u64; 16];
-    let list = lists::read(input, place.next, &mut words, 0);
-    output::text(out, b"replace");
-    output::operand(out, place.value);
-    let changed = opening_tree::replace(set, store, place.value, lists::part(&words, list.count));
-    Called {
-        changed: changed,
-        next: list.next,
-    }
+) -> fmt::Result {
+    let place = input.number();
+    let leaf = List::<16>::read(input);
+    let changed = opening_tree::replace(set, store, place, leaf.as_slice());
+    write!(out, "replace {place}{}", Compressions(changed))
 }
 
-// The records' numbers, seven a record.
-fn push(out: &mut Output, input: &[u8], at: usize, set: ParameterSet, store: &mut [u64]) -> Called {
-    let mut numbers = [0u64; 1344];
-    let list = lists::read(input, at, &mut numbers, 0);
-    output::text(out, b"push");
-    output::operand(out, (list.count / 7) as u64);
-    let changed = adapters::pushing::push_list(set, store, lists::part(&numbers, list.count));
-    Called {
-        changed: changed,
-        next: list.next,
-    }
-}
-
-fn call(out: &mut Output, input: &[u8], at: usize, set: ParameterSet, store: &mut [u64]) -> Called {
-    let kind = input::number(input, at);
-    if kind.value == 0 {
-        return replace(out, input, kind.next, set, store);
-    }
-    push(out, input, kind.next, set, store)
-}
-
-// One call's line, with the digest of the store after it. Where the next call begins.
-fn line(out: &mut Output, input: &[u8], at: usize, set: ParameterSet, store: &mut [u64]) -> usize {
-    let called = call(out, input, at, set, store);
-    let changed = called.changed;
-    entries::print_changed(out, changed);
-    output::operand(out, lists::digest(1, store));
-    output::end_line(out);
-    called.next
-}
-
-// The calls, in order. What follows them begins where it answers.
-pub fn each(
+// The records' numbers are seven a record.
+fn push(
     out: &mut Output,
-    input: &[u8],
-    at: usize,
+    input: &mut Input<'_>,
     set: ParameterSet,
     store: &mut [u64],
-    count: u64,
-) -> usize {
-    let mut next = at;
-    for _ in 0..count {
-        next = line(out, input, next, set, store);
+) -> fmt::Result {
+    let records = List::<1344>::read(input);
+    let numbers = records.as_slice();
+    let changed = adapters::pushing::push_list(set, store, numbers);
+    write!(out, "push {}{}", numbers.len() / 7, Compressions(changed))
+}
+
+// One call's line, with the digest of the store after it.
+pub fn line(
+    out: &mut Output,
+    input: &mut Input<'_>,
+    set: ParameterSet,
+    store: &mut [u64],
+) -> fmt::Result {
+    match Kind::from(input.number()) {
+        Kind::Replace => replace(out, input, set, store)?,
+        Kind::Push => push(out, input, set, store)?,
     }
-    next
+    writeln!(out, " {}", lists::digest(store))
 }

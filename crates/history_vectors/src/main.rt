@@ -6,13 +6,9 @@ mod calls;
 mod places;
 mod trees_section;
 
+use harness::printing;
 use std::io;
-use streams::Output;
 
 fn main(rt: HostRuntime) -> io::Result<()> {
-    let mut out = Output::new(rt.stdout());
-    let mut buffer = [0u8; 65536];
-    let count = streams::read_full(&mut rt.stdin(), &mut buffer)?;
-    trees_section::print(&mut out, &buffer[..count]);
-    out.flush()
+    printing::answer(&rt, trees_section::case)
 }

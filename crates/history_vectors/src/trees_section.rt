@@ -1,87 +1,55 @@
 // Trees, and what is called on each. The module docstring of reference/history_cases.py has the input's grammar.
 use crate::{calls, places};
-use harness::{entries, handed, input, lists, output};
+use harness::input::Input;
+use harness::lists::List;
+use harness::shown::Manner;
+use harness::{answers, handed};
 use parameters::ParameterSet;
-use std::num::wrapping_sub_u64;
+use std::fmt;
+use std::fmt::Write;
 use streams::Output;
 
-// A tree's sizes, the number of calls, and where the first call begins.
-#[derive(Clone, Copy)]
-struct Sizes {
-    store: usize,
-    siblings: usize,
-    places: u64,
-    calls: u64,
-    next: usize,
-}
-
-fn read_sizes(input: &[u8], at: usize) -> Sizes {
-    let store = input::number(input, at);
-    let siblings = input::number(input, store.next);
-    let places = input::number(input, siblings.next);
-    let calls = input::number(input, places.next);
-    Sizes {
-        store: lists::clamped(store.value, 1024),
-        siblings: lists::clamped(siblings.value, 1024),
-        places: places.value,
-        calls: calls.value,
-        next: calls.next,
-    }
-}
-
-fn in_part(
+// The calls, in order.
+fn print_calls(
     out: &mut Output,
-    input: &[u8],
+    input: &mut Input<'_>,
     set: ParameterSet,
     store: &mut [u64],
-    count: usize,
-    at: usize,
-    number: u64,
-) -> usize {
-    if count <= store.len() {
-        return calls::each(out, input, at, set, &mut store[..count], number);
+    count: u64,
+) -> fmt::Result {
+    for _ in 0..count {
+        calls::line(out, input, set, store)?;
     }
-    calls::each(out, input, at, set, store, number)
+    Ok(())
 }
 
-// One tree, its calls and its places. Where the next tree begins.
-fn tree(out: &mut Output, input: &[u8], at: usize) -> usize {
-    let numbers = handed::read_numbers(input, at);
-    let given = handed::read_set(input, numbers);
-    let set = given.set;
-    let mut words = [0u64; 1024];
-    let list = lists::read(input, given.next, &mut words, 0);
-    let sizes = read_sizes(input, list.next);
-    handed::print_numbers(out, numbers);
-    output::text(out, b" build");
-    let mut store = entries::build(out, set, lists::part(&words, list.count), sizes.store);
-    output::end_line(out);
-    let next = in_part(
-        out,
-        input,
-        set,
-        &mut store,
-        sizes.store,
-        sizes.next,
-        sizes.calls,
-    );
-    let root = wrapping_sub_u64(sizes.store as u64, set.node_size);
-    places::each(
-        out,
-        set,
-        lists::part(&store, sizes.store),
-        sizes.places,
-        sizes.siblings,
-        root,
-    );
-    next
+// The line of each place from 0 on.
+fn print_places(
+    out: &mut Output,
+    set: ParameterSet,
+    store: &[u64],
+    siblings: usize,
+    count: u64,
+) -> fmt::Result {
+    for place in 0..count {
+        places::line(out, set, store, siblings, place)?;
+    }
+    Ok(())
 }
 
-// The first number says how many trees follow.
-pub fn print(out: &mut Output, input: &[u8]) {
-    let trees = input::number(input, 0);
-    let mut at = trees.next;
-    for _ in 0..trees.value {
-        at = tree(out, input, at);
-    }
+// One tree, its calls and its places.
+pub fn case(out: &mut Output, input: &mut Input<'_>) -> fmt::Result {
+    let (numbers, set) = handed::read_set(input);
+    let leaves = List::<1024>::read(input);
+    let empty = List::<1024>::of(7, input.count(1024));
+    let siblings = input.count(1024);
+    let places = input.number();
+    let calls = input.number();
+    write!(out, "{numbers}")?;
+    let mut store = answers::call(out, Manner::Digest, "build", &empty, |store| {
+        opening_tree::build(set, leaves.as_slice(), store)
+    })?;
+    writeln!(out)?;
+    print_calls(out, input, set, store.as_mut_slice(), calls)?;
+    print_places(out, set, store.as_slice(), siblings, places)
 }

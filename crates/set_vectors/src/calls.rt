@@ -1,28 +1,40 @@
 // A call of each entry of trees and of states, with one set and on lists that the line holds.
 use crate::sets;
-use harness::held::Held;
-use harness::{entries, handed, held, output};
+use harness::input::Input;
+use harness::lists::List;
+use harness::shown::Manner;
+use harness::{answers, calls};
 use parameters::ParameterSet;
+use std::fmt;
+use std::fmt::Write;
 use streams::Output;
 
-fn print_states(out: &mut Output, set: ParameterSet, state: Held, node: Held) {
-    output::text(out, b" permute");
-    held::call(out, entries::PERMUTE, set, state, 0, state);
-    output::text(out, b" unpermute");
-    held::call(out, entries::UNPERMUTE, set, state, 0, state);
-    output::text(out, b" compress");
-    held::call(out, entries::COMPRESS, set, state, 0, node);
+// What each entry of states answers.
+fn print_states(
+    out: &mut Output,
+    set: ParameterSet,
+    state: &List<1024>,
+    node: &List<1024>,
+) -> fmt::Result {
+    answers::call(out, Manner::Digest, "permute", state, |state| {
+        opening_tree::permute(set, state)
+    })?;
+    answers::call(out, Manner::Digest, "unpermute", state, |state| {
+        opening_tree::unpermute(set, state)
+    })?;
+    answers::call(out, Manner::Digest, "compress", node, |node| {
+        opening_tree::compress(set, state.as_slice(), node)
+    })?;
+    Ok(())
 }
 
-// One set, and each entry with it. Where the next line begins.
-pub fn case(out: &mut Output, input: &[u8], at: usize) -> usize {
-    let numbers = handed::read_numbers(input, at);
-    let given = sets::read(input, numbers);
-    handed::print_numbers(out, numbers);
-    let next = held::calls(out, input, given.next, given.set);
-    let state = held::read_held(input, next, 5);
-    let node = held::read_held(input, state.next, 6);
-    print_states(out, given.set, state, node);
-    output::end_line(out);
-    node.next
+// One set, and each entry with it.
+pub fn case(out: &mut Output, input: &mut Input<'_>) -> fmt::Result {
+    let (numbers, set) = sets::read(input);
+    write!(out, "{numbers}")?;
+    calls::print(out, input, set)?;
+    let state = calls::read_held(input, 5);
+    let node = calls::read_held(input, 6);
+    print_states(out, set, &state, &node)?;
+    writeln!(out)
 }

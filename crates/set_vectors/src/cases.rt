@@ -1,25 +1,35 @@
 // The cases of the program's input, a line each. The module docstring of reference/set_cases.py has the input's grammar.
 use crate::{calls, exchanges, sets};
-use harness::input;
+use harness::input::Input;
+use std::fmt;
 use streams::Output;
 
-// One line, whose first number says what it is. Where the next line begins.
-fn line(out: &mut Output, input: &[u8], at: usize) -> usize {
-    let first = input::number(input, at);
-    let what = first.value;
-    match what {
-        1 => sets::case(out, input, first.next),
-        2 => calls::case(out, input, first.next),
-        3 => exchanges::diagonal(out, input, first.next),
-        _ => exchanges::height(out, input, first.next),
+// What a line is, by its first number.
+#[derive(Clone, Copy)]
+enum Line {
+    Set,
+    Calls,
+    Diagonal,
+    Height,
+}
+
+impl From<u64> for Line {
+    fn from(number: u64) -> Line {
+        match number {
+            1 => Line::Set,
+            2 => Line::Calls,
+            3 => Line::Diagonal,
+            _ => Line::Height,
+        }
     }
 }
 
-// The first number says how many lines follow.
-pub fn print(out: &mut Output, input: &[u8]) {
-    let lines = input::number(input, 0);
-    let mut at = lines.next;
-    for _ in 0..lines.value {
-        at = line(out, input, at);
+// One line.
+pub fn case(out: &mut Output, input: &mut Input<'_>) -> fmt::Result {
+    match Line::from(input.number()) {
+        Line::Set => sets::case(out, input),
+        Line::Calls => calls::case(out, input),
+        Line::Diagonal => exchanges::diagonal(out, input),
+        Line::Height => exchanges::height(out, input),
     }
 }

@@ -1,32 +1,24 @@
 // Exchanges of D and of h.
 use crate::sets;
-use harness::{handed, input, lists, output};
+use harness::input::Input;
+use harness::lists::List;
+use std::fmt;
+use std::fmt::Write;
 use streams::Output;
 
-// An exchange of D, which may be longer than any set's. Where the next line begins.
-pub fn diagonal(out: &mut Output, input: &[u8], at: usize) -> usize {
-    let numbers = handed::read_numbers(input, at);
-    let given = sets::read(input, numbers);
-    let mut places = [0u64; 16];
-    let list = lists::read(input, given.next, &mut places, 0);
-    let words = lists::part(&places, list.count);
-    handed::print_numbers(out, numbers);
-    output::text(out, b" exchange_diagonal");
-    output::operand(out, list.count as u64);
-    sets::print_answer(out, opening_tree::exchange_diagonal(given.set, words));
-    output::end_line(out);
-    list.next
+// An exchange of D, which may be longer than any set's.
+pub fn diagonal(out: &mut Output, input: &mut Input<'_>) -> fmt::Result {
+    let (numbers, set) = sets::read(input);
+    let list = List::<16>::read(input);
+    let words = list.as_slice();
+    write!(out, "{numbers} exchange_diagonal {}", words.len())?;
+    sets::print_answer(out, opening_tree::exchange_diagonal(set, words))
 }
 
-// An exchange of h. Where the next line begins.
-pub fn height(out: &mut Output, input: &[u8], at: usize) -> usize {
-    let numbers = handed::read_numbers(input, at);
-    let given = sets::read(input, numbers);
-    let new = input::number(input, given.next);
-    handed::print_numbers(out, numbers);
-    output::text(out, b" exchange_height");
-    output::operand(out, new.value);
-    sets::print_answer(out, opening_tree::exchange_height(given.set, new.value));
-    output::end_line(out);
-    new.next
+// An exchange of h.
+pub fn height(out: &mut Output, input: &mut Input<'_>) -> fmt::Result {
+    let (numbers, set) = sets::read(input);
+    let height = input.number();
+    write!(out, "{numbers} exchange_height {height}")?;
+    sets::print_answer(out, opening_tree::exchange_height(set, height))
 }

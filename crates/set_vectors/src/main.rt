@@ -7,13 +7,9 @@ mod cases;
 mod exchanges;
 mod sets;
 
+use harness::printing;
 use std::io;
-use streams::Output;
 
 fn main(rt: HostRuntime) -> io::Result<()> {
-    let mut out = Output::new(rt.stdout());
-    let mut buffer = [0u8; 65536];
-    let count = streams::read_full(&mut rt.stdin(), &mut buffer)?;
-    cases::print(&mut out, &buffer[..count]);
-    out.flush()
+    printing::answer(&rt, cases::case)
 }

@@ -1,65 +1,62 @@
 // Sets that are validated, and sets whose kept values a line changes.
-use harness::handed::{HandedSet, Numbers};
-use harness::{answers, handed, lists, output};
+use harness::handed::Numbers;
+use harness::input::Input;
+use harness::shown::Spaced;
+use harness::{answers, handed, lists};
 use parameters::{ParameterSet, Validation};
+use std::fmt;
+use std::fmt::Write;
 use streams::Output;
 
+// What stands for a set that is refused (Rules 2.6).
+const NO_SET: ParameterSet = ParameterSet {
+    width: 0,
+    node_size: 0,
+    height: 0,
+    full_rounds: 0,
+    partial_rounds: 0,
+    diagonal: [0; 12],
+    constants: [0; 208],
+    inverses: [0; 12],
+    total_inverse: 0,
+};
+
 // The digest of all that a set holds, its unused places too.
-fn digest_of(set: ParameterSet) -> u64 {
-    let inverses = set.inverses;
-    let total = [set.total_inverse];
-    let first = handed::digest_of(set);
-    let second = lists::digest(first, &inverses);
-    lists::digest(second, &total)
+fn digest_of(set: &ParameterSet) -> u64 {
+    let inverses = lists::digest_after(handed::digest_of(set), &set.inverses);
+    lists::digest_after(inverses, &[set.total_inverse])
 }
 
-fn print_kept(out: &mut Output, set: ParameterSet) {
-    let inverses = set.inverses;
-    output::text(out, b" kept");
-    lists::print(out, &inverses);
-    output::operand(out, set.total_inverse);
-}
-
-// What validation answers, or an exchange.
-pub fn print_answer(out: &mut Output, validation: Validation) {
-    let number = validation.number;
-    let set = validation.parameters;
-    if number != 0 {
-        answers::refused(out, number);
-        output::operand(out, digest_of(set));
-        return;
+// The rest of a line: what validation answers, or an exchange.
+pub fn print_answer(out: &mut Output, validation: Validation) -> fmt::Result {
+    match answers::set(validation) {
+        Ok(set) => {
+            let digest = digest_of(&set);
+            let inverses = Spaced(&set.inverses);
+            let total_inverse = set.total_inverse;
+            writeln!(out, " accepted {digest} kept{inverses} {total_inverse}")
+        }
+        Err(refused) => writeln!(out, " {refused} {}", digest_of(&NO_SET)),
     }
-    output::text(out, b" accepted");
-    output::operand(out, digest_of(set));
-    print_kept(out, set);
 }
 
-// One set to validate. Where the next line begins.
-pub fn case(out: &mut Output, input: &[u8], at: usize) -> usize {
-    let numbers = handed::read_numbers(input, at);
-    let validated = handed::validate(input, numbers);
-    handed::print_numbers(out, numbers);
-    output::text(out, b" validate");
-    print_answer(out, validated.validation);
-    output::end_line(out);
-    validated.next
+// One set to validate.
+pub fn case(out: &mut Output, input: &mut Input<'_>) -> fmt::Result {
+    let numbers = Numbers::read(input);
+    let validation = handed::validate(input, numbers);
+    write!(out, "{numbers} validate")?;
+    print_answer(out, validation)
 }
 
 // A line's set, after its runs are written over the kept values: the inverses of D, and then the inverse of 1 plus their sum.
-pub fn read(input: &[u8], numbers: Numbers) -> HandedSet {
-    let given = handed::read_set(input, numbers);
-    let mut set = given.set;
-    let right = set.inverses;
-    let mut kept = [0u64; 13];
-    lists::write(&mut kept, 0, &right);
-    lists::put(&mut kept, 12, set.total_inverse);
-    let next = lists::read_runs(input, given.next, &mut kept);
-    let mut inverses = [0u64; 12];
-    lists::write(&mut inverses, 0, &kept);
-    set.inverses = inverses;
+pub fn read(input: &mut Input<'_>) -> (Numbers, ParameterSet) {
+    let (numbers, right) = handed::read_set(input);
+    let mut kept = [0; 13];
+    kept[..12].copy_from_slice(&right.inverses);
+    kept[12] = right.total_inverse;
+    lists::read_runs(input, &mut kept);
+    let mut set = right;
+    set.inverses.copy_from_slice(&kept[..12]);
     set.total_inverse = kept[12];
-    HandedSet {
-        set: set,
-        next: next,
-    }
+    (numbers, set)
 }
