@@ -13,7 +13,7 @@ use streams::Output;
 pub fn read_held(input: &mut Input<'_>, seed: u64) -> List<1024> {
     let mut list = List::drawn(input.count(1024), seed);
     let fault = input.number();
-    lists::put(list.places_mut(), fault.wrapping_sub(1), fields::order());
+    lists::put(list.as_mut_slice(), fault.wrapping_sub(1), fields::order());
     list
 }
 

@@ -35,7 +35,7 @@ impl<'a> Input<'a> {
                 &rest[..end]
             }
             None => {
-                self.rest = &rest[rest.len()..];
+                self.rest = &[];
                 rest
             }
         }

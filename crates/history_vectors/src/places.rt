@@ -43,7 +43,7 @@ fn print_readings(out: &mut Output, set: ParameterSet, opening: &List<1024>) -> 
     print_levels(out, set, opening.as_slice())?;
     write!(out, " spoilt")?;
     let mut spoilt = *opening;
-    lists::put(spoilt.places_mut(), 0, fields::order());
+    lists::put(spoilt.as_mut_slice(), 0, fields::order());
     print_levels(out, set, spoilt.as_slice())?;
     write!(out, " long")?;
     let (longer, _) = lists::split(opening.places(), opening.as_slice().len() + 1);

@@ -42,13 +42,13 @@ fn damaged_verdicts(
     place: u64,
     words: &mut [u64],
     node_size: usize,
-) -> (u64, u64) {
-    let mut accepted: u64 = 0;
-    let mut rejected: u64 = 0;
+) -> (usize, usize) {
+    let mut accepted = 0;
+    let mut rejected = 0;
     for at in 0..words.len() {
         match damaged_verdict(set, place, words, at, node_size) {
-            Verdict::Accepted => accepted = accepted.wrapping_add(1),
-            Verdict::Rejected => rejected = rejected.wrapping_add(1),
+            Verdict::Accepted => accepted += 1,
+            Verdict::Rejected => rejected += 1,
             Verdict::Refused(_) => {}
         }
     }
