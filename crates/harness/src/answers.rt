@@ -1,4 +1,4 @@
-// What entries answer, in words. Each begins with a space. Only this module looks at the answers themselves.
+// What entries answer, in words. Only this module looks at the answers themselves.
 use crate::lists::List;
 use crate::shown::Manner;
 use opening_tree::{Answer, Changed, Extraction, Outcome, Sizing, Validation, Verdict};

@@ -13,6 +13,7 @@ pub fn print<F: FnOnce(&mut Output) -> fmt::Result>(rt: &HostRuntime, text: F) -
     out.flush()
 }
 
+// The cases, in order.
 fn each<F: Fn(&mut Output, &mut Input<'_>) -> fmt::Result>(
     out: &mut Output,
     input: &mut Input<'_>,

@@ -32,10 +32,10 @@ fn replacement(
 pub fn case(out: &mut Output, input: &mut Input<'_>) -> fmt::Result {
     let (numbers, set) = handed::read_set(input);
     let leaves = List::<1024>::read(input);
-    let empty = List::of(7, input.count(1024));
+    let blank = List::of(7, input.count(1024));
     let calls = input.number();
     write!(out, "{numbers}")?;
-    let mut store = answers::call(out, Manner::Digest, "build", &empty, |store| {
+    let mut store = answers::call(out, Manner::Digest, "build", &blank, |store| {
         opening_tree::build(set, leaves.as_slice(), store)
     })?;
     writeln!(out)?;

@@ -59,8 +59,8 @@ pub fn line(
     place: u64,
 ) -> fmt::Result {
     write!(out, "place {place}")?;
-    let empty = List::<1024>::of(7, siblings);
-    let opening = answers::call(out, Manner::Digest, "open", &empty, |siblings| {
+    let blank = List::<1024>::of(7, siblings);
+    let opening = answers::call(out, Manner::Digest, "open", &blank, |siblings| {
         opening_tree::open(set, store, place, siblings)
     })?;
     let node_size = set.node_size.min(16) as usize;

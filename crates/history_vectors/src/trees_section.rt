@@ -41,12 +41,12 @@ fn print_places(
 pub fn case(out: &mut Output, input: &mut Input<'_>) -> fmt::Result {
     let (numbers, set) = handed::read_set(input);
     let leaves = List::<1024>::read(input);
-    let empty = List::<1024>::of(7, input.count(1024));
+    let blank = List::<1024>::of(7, input.count(1024));
     let siblings = input.count(1024);
     let places = input.number();
     let calls = input.number();
     write!(out, "{numbers}")?;
-    let mut store = answers::call(out, Manner::Digest, "build", &empty, |store| {
+    let mut store = answers::call(out, Manner::Digest, "build", &blank, |store| {
         opening_tree::build(set, leaves.as_slice(), store)
     })?;
     writeln!(out)?;

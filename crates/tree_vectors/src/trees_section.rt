@@ -81,8 +81,8 @@ fn joined(root: &[u64], leaf: &[u64], siblings: &[u64]) -> List<1024> {
 // One place's line: its opening, the verdict on it, and those with each of the words damaged.
 fn place_line(out: &mut Output, tree: Tree<'_>, place: u64, leaf: &[u64]) -> fmt::Result {
     write!(out, "place {place}")?;
-    let empty = List::<1024>::of(7, tree.siblings);
-    let opening = answers::call(out, tree.manner, "open", &empty, |siblings| {
+    let blank = List::<1024>::of(7, tree.siblings);
+    let opening = answers::call(out, tree.manner, "open", &blank, |siblings| {
         opening_tree::open(tree.set, tree.store, place, siblings)
     })?;
     let node_size = tree.root.len();
@@ -107,18 +107,18 @@ fn place_lines(out: &mut Output, tree: Tree<'_>, places: u64) -> fmt::Result {
 pub fn case(out: &mut Output, input: &mut Input<'_>, manner: Manner) -> fmt::Result {
     let (numbers, set) = handed::read_set(input);
     let leaves = List::<1024>::read(input);
-    let empty_store = List::<1024>::of(7, input.count(1024));
+    let blank_store = List::<1024>::of(7, input.count(1024));
     let siblings = input.count(1024);
     let places = input.number();
-    let empty_root = List::<1024>::of(7, set.node_size.min(1024) as usize);
+    let blank_root = List::<1024>::of(7, set.node_size.min(1024) as usize);
     write!(out, "{numbers}{}", Sizes(opening_tree::sizes(set)))?;
-    let store = answers::call(out, manner, "build", &empty_store, |store| {
+    let store = answers::call(out, manner, "build", &blank_store, |store| {
         opening_tree::build(set, leaves.as_slice(), store)
     })?;
-    let root = answers::call(out, Manner::InFull, "root", &empty_root, |root| {
+    let root = answers::call(out, Manner::InFull, "root", &blank_root, |root| {
         opening_tree::root(set, store.as_slice(), root)
     })?;
-    answers::call(out, Manner::InFull, "storeless_root", &empty_root, |root| {
+    answers::call(out, Manner::InFull, "storeless_root", &blank_root, |root| {
         opening_tree::storeless_root(set, leaves.as_slice(), root)
     })?;
     writeln!(out)?;

@@ -11,7 +11,7 @@ const SEEDED_LINES: u64 = 2000;
 const UNREDUCED_LINES: u64 = 3000;
 
 // the high 32 bits
-const HIGH_HALF: u64 = 18446744069414584320;
+const HIGH_HALF: u64 = 0xffff_ffff_0000_0000;
 
 // A call of an entry of the field.
 #[derive(Clone, Copy)]
@@ -70,8 +70,8 @@ fn worked(out: &mut Output) -> fmt::Result {
     let p = fields::order();
     let calls = [
         Call::Product(p - 1, p - 1),
-        Call::Product(4294967296, 4294967296),
-        Call::Product(281474976710656, 281474976710656),
+        Call::Product(1 << 32, 1 << 32),
+        Call::Product(1 << 48, 1 << 48),
         Call::Product(p, p),
         Call::Product(p + 1, p - 1),
         Call::Product(u64::MAX, u64::MAX),
@@ -97,10 +97,10 @@ fn edges() -> [u64; 12] {
     [
         0,
         1,
-        4294967295,
-        4294967296,
-        4294967297,
-        9223372036854775808,
+        (1 << 32) - 1,
+        1 << 32,
+        (1 << 32) + 1,
+        1 << 63,
         p.wrapping_add(p),
         p - 2,
         p - 1,
@@ -157,7 +157,7 @@ fn drawn_of_one<F: Fn(u64) -> Call>(out: &mut Output, name: &str, seed: u64, cal
     Ok(())
 }
 
-fn drawn_of_two<F: Fn(u64, u64) -> Call>(
+fn lines_of_two<F: Fn(u64, u64) -> Call>(
     out: &mut Output,
     seed: u64,
     lines: u64,
@@ -174,37 +174,56 @@ fn drawn_of_two<F: Fn(u64, u64) -> Call>(
     Ok(())
 }
 
+fn drawn_of_two<F: Fn(u64, u64) -> Call>(
+    out: &mut Output,
+    name: &str,
+    seed: u64,
+    call: F,
+) -> fmt::Result
+    requires { F.IsAlwaysCallable call }
+{
+    writeln!(out, "{name} seeded {SEEDED_LINES}")?;
+    lines_of_two(out, seed, SEEDED_LINES, call)
+}
+
+// The entries that take any numbers, on many that are no words.
+fn any_of_two<F: Fn(u64, u64) -> Call>(
+    out: &mut Output,
+    name: &str,
+    seed: u64,
+    call: F,
+) -> fmt::Result
+    requires { F.IsAlwaysCallable call }
+{
+    writeln!(out, "{name} unreduced {UNREDUCED_LINES}")?;
+    lines_of_two(out, seed, UNREDUCED_LINES, call)
+}
+
 // Each entry on drawn numbers. An exponent is as it is drawn.
 fn drawn(out: &mut Output) -> fmt::Result {
-    writeln!(out, "sum seeded {SEEDED_LINES}")?;
-    drawn_of_two(out, 0, SEEDED_LINES, |a, b| Call::Sum(seeded(a), seeded(b)))?;
-    writeln!(out, "difference seeded {SEEDED_LINES}")?;
+    drawn_of_two(out, "sum", 0, |a, b| Call::Sum(seeded(a), seeded(b)))?;
     drawn_of_two(
         out,
+        "difference",
         1,
-        SEEDED_LINES,
         |a, b| Call::Difference(seeded(a), seeded(b)),
     )?;
-    writeln!(out, "product seeded {SEEDED_LINES}")?;
     drawn_of_two(
         out,
+        "product",
         2,
-        SEEDED_LINES,
         |a, b| Call::Product(seeded(a), seeded(b)),
     )?;
-    writeln!(out, "power seeded {SEEDED_LINES}")?;
-    drawn_of_two(out, 3, SEEDED_LINES, |a, e| Call::Power(seeded(a), e))?;
+    drawn_of_two(out, "power", 3, |a, e| Call::Power(seeded(a), e))?;
     drawn_of_one(out, "inverse", 4, |a| Call::Inverse(seeded(a)))?;
     drawn_of_one(out, "seventh_root", 5, |a| Call::SeventhRoot(seeded(a)))?;
-    writeln!(out, "product unreduced {UNREDUCED_LINES}")?;
-    drawn_of_two(
+    any_of_two(
         out,
+        "product",
         6,
-        UNREDUCED_LINES,
         |a, b| Call::Product(unreduced(a), unreduced(b)),
     )?;
-    writeln!(out, "power unreduced {UNREDUCED_LINES}")?;
-    drawn_of_two(out, 7, UNREDUCED_LINES, |a, e| Call::Power(unreduced(a), e))
+    any_of_two(out, "power", 7, |a, e| Call::Power(unreduced(a), e))
 }
 
 pub fn print(out: &mut Output) -> fmt::Result {
