@@ -1,8 +1,9 @@
 // The set of a line of the input: its five numbers, and the lists D and C.
+use crate::answers::Refused;
 use crate::input::Input;
 use crate::lists::List;
 use crate::{answers, lists};
-use parameters::{ParameterSet, Validation};
+use parameters::ParameterSet;
 use std::fmt;
 
 // A set's five numbers.
@@ -38,10 +39,10 @@ impl fmt::Display for Numbers {
 }
 
 // What validation answers for a line's numbers, D and C, which may be longer than any set's.
-pub fn validate(input: &mut Input<'_>, numbers: Numbers) -> Validation {
+pub fn validate(input: &mut Input<'_>, numbers: Numbers) -> Result<ParameterSet, Refused> {
     let diagonal = List::<16>::read(input);
     let constants = List::<224>::read(input);
-    opening_tree::validate(
+    answers::set(opening_tree::validate(
         numbers.width,
         numbers.node_size,
         numbers.height,
@@ -49,7 +50,7 @@ pub fn validate(input: &mut Input<'_>, numbers: Numbers) -> Validation {
         numbers.partial_rounds,
         diagonal.as_slice(),
         constants.as_slice(),
-    )
+    ))
 }
 
 // The digest of all that a set holds but its kept values, its unused places too.

@@ -1,9 +1,10 @@
 // Sets that are validated, and sets whose kept values a line changes.
+use harness::answers::Refused;
 use harness::handed::Numbers;
 use harness::input::Input;
 use harness::shown::Spaced;
-use harness::{answers, handed, lists};
-use parameters::{ParameterSet, Validation};
+use harness::{handed, lists};
+use parameters::ParameterSet;
 use std::fmt;
 use std::fmt::Write;
 use streams::Output;
@@ -28,8 +29,8 @@ fn digest_of(set: &ParameterSet) -> u64 {
 }
 
 // The rest of a line: what validation answers, or an exchange.
-pub fn print_answer(out: &mut Output, validation: Validation) -> fmt::Result {
-    match answers::set(validation) {
+pub fn print_answer(out: &mut Output, answer: Result<ParameterSet, Refused>) -> fmt::Result {
+    match answer {
         Ok(set) => {
             let digest = digest_of(&set);
             let inverses = Spaced(&set.inverses);
@@ -43,9 +44,9 @@ pub fn print_answer(out: &mut Output, validation: Validation) -> fmt::Result {
 // One set to validate.
 pub fn case(out: &mut Output, input: &mut Input<'_>) -> fmt::Result {
     let numbers = Numbers::read(input);
-    let validation = handed::validate(input, numbers);
+    let answer = handed::validate(input, numbers);
     write!(out, "{numbers} validate")?;
-    print_answer(out, validation)
+    print_answer(out, answer)
 }
 
 // A line's set, after its runs are written over the kept values: the inverses of D, and then the inverse of 1 plus their sum.

@@ -1,7 +1,7 @@
 // The section `sets`: what validation answers.
+use harness::handed;
 use harness::handed::Numbers;
 use harness::input::Input;
-use harness::{answers, handed};
 use std::fmt;
 use std::fmt::Write;
 use streams::Output;
@@ -9,7 +9,7 @@ use streams::Output;
 // One case.
 pub fn case(out: &mut Output, input: &mut Input<'_>) -> fmt::Result {
     let numbers = Numbers::read(input);
-    match answers::set(handed::validate(input, numbers)) {
+    match handed::validate(input, numbers) {
         Ok(set) => writeln!(
             out,
             "{numbers} validate accepted {}",
