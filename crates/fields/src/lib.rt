@@ -6,7 +6,7 @@ ghost use Rattle.modular.specs.Arithmetic.{add, sub, mul, pow, inverse, seventh_
 ghost use Rattle.modular.specs.Congruence.{◌≈⟨◌⟩◌};
 ghost use Rattle.poseidon2.specs.Inverse.{seventh_roots};
 ghost use Rattle.poseidon2.specs.Statements.{Words};
-ghost use Rattle.blocks.specs.Blocks.{four, flat};
+ghost use Rattle.blocks.specs.Blocks.{flat};
 ghost use Rattle.fields.specs.Prime.{prime, word_bytes, prime_bits};
 
 // The prime itself: a number below it is a word.
@@ -75,25 +75,11 @@ pub fn seventh_root(y: u64) -> u64
 }
 
 // The seventh roots of a state's words, by its blocks: together they take less time than one by one.
-pub fn seventh_roots4(y: [u64; 4]) -> [u64; 4]
-    requires { Words prime (four y) }
-    ensures { four result ≡ seventh_roots prime (four y) }
+pub fn seventh_roots<const B: usize>(y: [[u64; 4]; B]) -> [[u64; 4]; B]
+    requires { Words prime (flat B y) }
+    ensures { flat B result ≡ seventh_roots prime (flat B y.entry) }
 {
-    roots::seventh_roots4(y)
-}
-
-pub fn seventh_roots8(y: [[u64; 4]; 2]) -> [[u64; 4]; 2]
-    requires { Words prime (flat 2 y) }
-    ensures { flat 2 result ≡ seventh_roots prime (flat 2 y) }
-{
-    roots::seventh_roots8(y)
-}
-
-pub fn seventh_roots12(y: [[u64; 4]; 3]) -> [[u64; 4]; 3]
-    requires { Words prime (flat 3 y) }
-    ensures { flat 3 result ≡ seventh_roots prime (flat 3 y) }
-{
-    roots::seventh_roots12(y)
+    roots::seventh_roots(y)
 }
 
 // Lazy numbers: any number of 64 bits stands for its residue. A product, and one with a summand.

@@ -1,7 +1,7 @@
 -- Exponents: numbers that stand for powers of words are multiplied, and squared, by sums and products of the exponents. A number alone is a
 -- list of one.
 use mathlib.Core.Path.{◌≡◌, refl, sym, ap, ap₂, subst, ◌∙◌}
-use mathlib.Core.List.{List, [], ◌∷◌, ◌++◌}
+use mathlib.Core.List.{List, [], ◌∷◌}
 use Prim.Native.Nat.{ℕ, ◌+◌, ◌*◌, ◌%◌, ◌^◌, ◌<◌}
 use native.Mathlib.Nat.{pow-suc, mod-lt, mod-mod, mod-eq_of_lt}
 use native.Mathlib.Numerals.{add-one}
@@ -18,8 +18,8 @@ use Rattle.poseidon2.specs.Inverse.{seventh_roots}
 use Rattle.poseidon2.specs.Residues.{residues}
 use Rattle.poseidon2.specs.Statements.{Words}
 use Rattle.poseidon2.proofs.Words.{cons_eq, words_tail}
-use Rattle.blocks.specs.Blocks.{four, flat_from, flat}
-use Rattle.blocks.proofs.Lists.{four_eq, append_eq}
+use Rattle.blocks.specs.Blocks.{four}
+use Rattle.blocks.proofs.Lists.{four_eq}
 use Rattle.roots.specs.Powers.{products, powers}
 
 -- ---- residues are enough
@@ -141,37 +141,6 @@ pub residues_four : (x : List ℕ) {a b c d : ℕ} → a ≡ get_or x 0 0 % p �
     → a ∷ b ∷ c ∷ d ∷ [] ≡ residues p (four x)
 unfolding residues
 residues_four x e f g h = four_eq e f g h
-
--- the products of one block more, and its words
-products_more : (r a b rs cs ds : List ℕ) → residues p (four r) ≡ products p (four a) (four b) → residues p rs ≡ products p cs ds
-    → residues p (four r ++ rs) ≡ products p (four a ++ cs) (four b ++ ds)
-unfolding products residues
-products_more r a b rs cs ds e f = append_eq e f
-
-pub products_two : (r a b : List (List ℕ)) → residues p (four (get_or r 0 [])) ≡ products p (four (get_or a 0 [])) (four (get_or b 0 []))
-    → residues p (four (get_or r 1 [])) ≡ products p (four (get_or a 1 [])) (four (get_or b 1 [])) → residues p (flat 2 r) ≡ products p (flat 2 a) (flat 2 b)
-products_two r a b e f = products_more (get_or r 0 []) (get_or a 0 []) (get_or b 0 []) (four (get_or r 1 [])) (four (get_or a 1 [])) (four (get_or b 1 [])) e f
-
-pub products_three : (r a b : List (List ℕ)) → residues p (four (get_or r 0 [])) ≡ products p (four (get_or a 0 [])) (four (get_or b 0 []))
-    → residues p (four (get_or r 1 [])) ≡ products p (four (get_or a 1 [])) (four (get_or b 1 []))
-    → residues p (four (get_or r 2 [])) ≡ products p (four (get_or a 2 [])) (four (get_or b 2 [])) → residues p (flat 3 r) ≡ products p (flat 3 a) (flat 3 b)
-products_three r a b e f g =
-    products_more (get_or r 0 []) (get_or a 0 []) (get_or b 0 []) (flat_from 1 2 r) (flat_from 1 2 a) (flat_from 1 2 b) e
-    (products_more (get_or r 1 []) (get_or a 1 []) (get_or b 1 []) (four (get_or r 2 [])) (four (get_or a 2 [])) (four (get_or b 2 [])) f g)
-
-residues_more : (r x rs xs : List ℕ) → four r ≡ residues p (four x) → rs ≡ residues p xs → four r ++ rs ≡ residues p (four x ++ xs)
-unfolding residues
-residues_more r x rs xs e f = append_eq e f
-
-pub residues_two : (r x : List (List ℕ)) → four (get_or r 0 []) ≡ residues p (four (get_or x 0 [])) → four (get_or r 1 []) ≡ residues p (four (get_or x 1 []))
-    → flat 2 r ≡ residues p (flat 2 x)
-residues_two r x e f = residues_more (get_or r 0 []) (get_or x 0 []) (four (get_or r 1 [])) (four (get_or x 1 [])) e f
-
-pub residues_three : (r x : List (List ℕ)) → four (get_or r 0 []) ≡ residues p (four (get_or x 0 [])) → four (get_or r 1 []) ≡ residues p (four (get_or x 1 []))
-    → four (get_or r 2 []) ≡ residues p (four (get_or x 2 [])) → flat 3 r ≡ residues p (flat 3 x)
-residues_three r x e f g =
-    residues_more (get_or r 0 []) (get_or x 0 []) (flat_from 1 2 r) (flat_from 1 2 x) e
-    (residues_more (get_or r 1 []) (get_or x 1 []) (four (get_or r 2 [])) (four (get_or x 2 [])) f g)
 
 -- ---- a number alone, and as a list of one
 

@@ -1,3 +1,2 @@
--- Products and powers of lists of numbers, and the steps of the chain.
+-- Products and powers of lists of numbers.
 pub mod Powers
-pub mod Chain

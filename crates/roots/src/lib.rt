@@ -10,17 +10,15 @@ ghost use Rattle.modular.specs.Congruence.{◌≈⟨◌⟩◌};
 ghost use Rattle.modular.specs.Goldilocks.{p};
 
 use field::lazy::{product, residue, seventh_power};
-pub use step::{seventh_roots4, seventh_roots8, seventh_roots12};
+pub use step::seventh_roots;
 
 // x squared n times, times y.
 fn raised(x: u64, n: usize, y: u64) -> u64
     ensures { result ≈⟨ p ⟩ x ^ (2 ^ n) * y }
 {
     let mut r = x;
-    let mut i = 0;
-    while i < n {
+    for _ in 0..n {
         r = product(r, r);
-        i += 1;
     }
     product(r, y)
 }

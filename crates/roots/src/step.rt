@@ -1,12 +1,11 @@
-// Words in step, by blocks of four. The chain is a loop over its nine steps, so that the loop of squarings stands in one place, where the
-// compiler keeps the words in registers.
+// Words in step: a state is B blocks of four. The chain is a loop over its steps, and what it calls is joined with it, so that the loop of
+// squarings stands in one place, where the compiler keeps the words in registers.
 ghost use Rattle.std.specs.Prelude.{◌≡◌, ◌^◌};
 ghost use Rattle.modular.specs.Goldilocks.{p};
 ghost use Rattle.poseidon2.specs.Inverse.{seventh_roots};
 ghost use Rattle.poseidon2.specs.Residues.{residues};
 ghost use Rattle.poseidon2.specs.Statements.{Words};
 ghost use Rattle.blocks.specs.Blocks.{four, flat};
-ghost use Rattle.roots.specs.Chain.{factor};
 ghost use Rattle.roots.specs.Powers.{products, powers};
 
 use field::lazy::{product, residue, square};
@@ -37,158 +36,90 @@ fn words4(x: [u64; 4]) -> [u64; 4]
     [residue(x[0]), residue(x[1]), residue(x[2]), residue(x[3])]
 }
 
-// A block squared n times, times another.
-fn raised4(x: [u64; 4], n: usize, y: [u64; 4]) -> [u64; 4]
-    ensures { residues p (four result) ≡ products p (powers p (2 ^ n) (four x)) (four y) }
+// The same of each block of a state.
+#[inline(always)]
+fn times<const B: usize>(a: [[u64; 4]; B], b: [[u64; 4]; B]) -> [[u64; 4]; B]
+    ensures { residues p (flat B result) ≡ products p (flat B a.entry) (flat B b.entry) }
+{
+    let mut r = a;
+    for i in 0..B {
+        r[i] = times4(r[i], b[i]);
+    }
+    r
+}
+
+#[inline(always)]
+fn squares<const B: usize>(x: [[u64; 4]; B]) -> [[u64; 4]; B]
+    ensures { residues p (flat B result) ≡ products p (flat B x.entry) (flat B x.entry) }
 {
     let mut r = x;
-    let mut i = 0;
-    while i < n {
-        let next = squares4(r);
-        r = next;
-        i += 1;
+    for i in 0..B {
+        r[i] = squares4(r[i]);
     }
-    times4(r, y)
+    r
 }
 
-// What a step multiplies by: the words themselves, the numbers reached so far, or those with 001 ten times in their exponent.
-fn factor4(k: usize, y: [u64; 4], r: [u64; 4], ten: [u64; 4]) -> [u64; 4]
-    ensures { result ≡ factor k y r ten }
-{
-    if k == 5 {
-        return ten;
-    }
-    if k == 1 {
-        return r;
-    }
-    if k == 3 {
-        return r;
-    }
-    if k == 4 {
-        return r;
-    }
-    y
-}
-
-// The seventh roots of words.
-pub fn seventh_roots4(y: [u64; 4]) -> [u64; 4]
-    requires { Words p (four y) }
-    ensures { four result ≡ seventh_roots p (four y) }
-{
-    let squarings = [3usize, 6, 3, 15, 31, 1, 2, 1, 1];
-    let mut r = y;
-    let mut ten = y;
-    let mut k = 0;
-    while k < 9 {
-        let factor = factor4(k, y, r, ten);
-        if k == 4 {
-            ten = r;
-        }
-        let next = raised4(r, squarings[k], factor);
-        r = next;
-        k += 1;
-    }
-    words4(r)
-}
-
-fn raised8(x: [[u64; 4]; 2], n: usize, y: [[u64; 4]; 2]) -> [[u64; 4]; 2]
-    ensures { residues p (flat 2 result) ≡ products p (powers p (2 ^ n) (flat 2 x)) (flat 2 y) }
+#[inline(always)]
+fn words<const B: usize>(x: [[u64; 4]; B]) -> [[u64; 4]; B]
+    ensures { flat B result ≡ residues p (flat B x.entry) }
 {
     let mut r = x;
-    let mut i = 0;
-    while i < n {
-        let next = [squares4(r[0]), squares4(r[1])];
-        r = next;
-        i += 1;
+    for i in 0..B {
+        r[i] = words4(r[i]);
     }
-    [times4(r[0], y[0]), times4(r[1], y[1])]
+    r
 }
 
-fn factor8(k: usize, y: [[u64; 4]; 2], r: [[u64; 4]; 2], ten: [[u64; 4]; 2]) -> [[u64; 4]; 2]
-    ensures { result ≡ factor k y r ten }
-{
-    if k == 5 {
-        return ten;
-    }
-    if k == 1 {
-        return r;
-    }
-    if k == 3 {
-        return r;
-    }
-    if k == 4 {
-        return r;
-    }
-    y
-}
-
-pub fn seventh_roots8(y: [[u64; 4]; 2]) -> [[u64; 4]; 2]
-    requires { Words p (flat 2 y) }
-    ensures { flat 2 result ≡ seventh_roots p (flat 2 y) }
-{
-    let squarings = [3usize, 6, 3, 15, 31, 1, 2, 1, 1];
-    let mut r = y;
-    let mut ten = y;
-    let mut k = 0;
-    while k < 9 {
-        let factor = factor8(k, y, r, ten);
-        if k == 4 {
-            ten = r;
-        }
-        let next = raised8(r, squarings[k], factor);
-        r = next;
-        k += 1;
-    }
-    [words4(r[0]), words4(r[1])]
-}
-
-fn raised12(x: [[u64; 4]; 3], n: usize, y: [[u64; 4]; 3]) -> [[u64; 4]; 3]
-    ensures { residues p (flat 3 result) ≡ products p (powers p (2 ^ n) (flat 3 x)) (flat 3 y) }
+// A state squared n times, times another.
+#[inline(always)]
+fn raised<const B: usize>(x: [[u64; 4]; B], n: usize, y: [[u64; 4]; B]) -> [[u64; 4]; B]
+    ensures { residues p (flat B result) ≡ products p (powers p (2 ^ n) (flat B x.entry)) (flat B y.entry) }
 {
     let mut r = x;
-    let mut i = 0;
-    while i < n {
-        let next = [squares4(r[0]), squares4(r[1]), squares4(r[2])];
-        r = next;
-        i += 1;
+    for _ in 0..n {
+        r = squares(r);
     }
-    [times4(r[0], y[0]), times4(r[1], y[1]), times4(r[2], y[2])]
+    times(r, y)
 }
 
-fn factor12(k: usize, y: [[u64; 4]; 3], r: [[u64; 4]; 3], ten: [[u64; 4]; 3]) -> [[u64; 4]; 3]
-    ensures { result ≡ factor k y r ten }
-{
-    if k == 5 {
-        return ten;
-    }
-    if k == 1 {
-        return r;
-    }
-    if k == 3 {
-        return r;
-    }
-    if k == 4 {
-        return r;
-    }
-    y
+// What a step of the chain multiplies by.
+#[derive(Clone, Copy)]
+enum Factor {
+    // The words themselves.
+    Word,
+    // The numbers reached.
+    Reached,
+    // The same as the step before.
+    Same,
 }
 
-pub fn seventh_roots12(y: [[u64; 4]; 3]) -> [[u64; 4]; 3]
-    requires { Words p (flat 3 y) }
-    ensures { flat 3 result ≡ seventh_roots p (flat 3 y) }
+// The chain: how often each step squares the numbers reached, and what it multiplies them by then.
+const CHAIN: [(usize, Factor); 9] = [
+    (3, Factor::Word),
+    (6, Factor::Reached),
+    (3, Factor::Word),
+    (15, Factor::Reached),
+    (31, Factor::Reached),
+    (1, Factor::Same),
+    (2, Factor::Word),
+    (1, Factor::Word),
+    (1, Factor::Word),
+];
+
+// The seventh roots of a state's words.
+pub fn seventh_roots<const B: usize>(y: [[u64; 4]; B]) -> [[u64; 4]; B]
+    requires { Words p (flat B y) }
+    ensures { flat B result ≡ seventh_roots p (flat B y.entry) }
 {
-    let squarings = [3usize, 6, 3, 15, 31, 1, 2, 1, 1];
     let mut r = y;
-    let mut ten = y;
-    let mut k = 0;
-    while k < 9 {
-        let factor = factor12(k, y, r, ten);
-        if k == 4 {
-            ten = r;
-        }
-        let next = raised12(r, squarings[k], factor);
-        r = next;
-        k += 1;
+    let mut factor = y;
+    for (squarings, by) in CHAIN {
+        factor = match by {
+            Factor::Word => y,
+            Factor::Reached => r,
+            Factor::Same => factor,
+        };
+        r = raised(r, squarings, factor);
     }
-    [words4(r[0]), words4(r[1]), words4(r[2])]
+    words(r)
 }
