@@ -8,4 +8,4 @@ mod Sums
 mod Parts
 pub mod Kept
 mod Rounds
-mod Several
+mod Flat

@@ -1,17 +1,16 @@
--- A state read and written by its blocks of four.
-use mathlib.Core.Path.{◌≡◌, refl, sym, ap, ap₂, subst, ◌∙◌}
-use mathlib.Core.List.{List, [], ◌∷◌, ◌++◌, append_assoc}
-use Prim.Native.Nat.{ℕ, suc, ◌+◌, ◌<◌, ◌≤◌}
+-- A state written by its blocks of four, and constants taken off.
+use mathlib.Core.Path.{◌≡◌, refl, sym, ap, ap₂, ◌∙◌}
+use mathlib.Core.List.{List, [], ◌∷◌, ◌++◌}
+use Prim.Native.Nat.{ℕ, suc, ◌+◌, ◌≤◌}
 use native.Mathlib.Omega.{arith}
-use lib.ListN.{length, get_or, take, drop, length-append, length-drop, take-append-drop}
+use lib.ListN.{length, get_or, take, drop, length-append, length-drop}
 use lib.Seq.{take_at, take_all, length-take-le, drop-drop}
 use Rattle.modular.specs.Arithmetic.{sub}
 use Rattle.poseidon2.specs.Inverse.{sub_lists}
-use Rattle.poseidon2.specs.Statements.{Words}
-use Rattle.poseidon2.proofs.Words.{cons_eq, words_none, words_more}
+use Rattle.poseidon2.proofs.Words.{cons_eq}
 use Rattle.poseidon2.proofs.Places.{first_at, rest_at}
 use Rattle.blocks.specs.Blocks.{four}
-use Rattle.blocks.proofs.Lists.{four_eq, append_eq}
+use Rattle.blocks.proofs.Lists.{four_eq}
 use Rattle.inversion.proofs.Blocks as blocks
 
 -- the first i numbers of a state of t are xs
@@ -45,19 +44,9 @@ sub-append p (x ∷ xs) ys cs =
     (ap (λ (ds : List ℕ). sub_lists p xs (drop 1 cs) ++ sub_lists p ys ds) (ap (λ (m : ℕ). drop m cs) n ∙ sym (drop-drop (length xs) 1 cs))
     ∙ sub-append p xs ys (drop 1 cs))
 
-less_more : (p : ℕ) (b xs C : List ℕ) (k : ℕ) → sub_lists p (four b) (drop k C) ++ sub_lists p xs (drop (k + 4) C) ≡ sub_lists p (four b ++ xs) (drop k C)
+pub less_more : (p : ℕ) (b xs C : List ℕ) (k : ℕ) → sub_lists p (four b) (drop k C) ++ sub_lists p xs (drop (k + 4) C) ≡ sub_lists p (four b ++ xs) (drop k C)
 less_more p b xs C k =
     ap (λ (cs : List ℕ). sub_lists p (four b) (drop k C) ++ sub_lists p xs cs) (sym (drop-drop 4 k C)) ∙ sub-append p (four b) xs (drop k C)
-
-pub less_two : (p : ℕ) (r l m C : List ℕ) (s : List ℕ) (k : ℕ) → four l ≡ sub_lists p (four r) (drop k C) → four m ≡ sub_lists p (four s) (drop (k + 4) C)
-    → four l ++ four m ≡ sub_lists p (four r ++ four s) (drop k C)
-less_two p r l m C s k e f = append_eq e f ∙ less_more p r (four s) C k
-
-pub less_three : (p : ℕ) (r l m n C : List ℕ) (s t : List ℕ) (k : ℕ) → four l ≡ sub_lists p (four r) (drop k C) → four m ≡ sub_lists p (four s) (drop (k + 4) C)
-    → four n ≡ sub_lists p (four t) (drop (k + 8) C) → four l ++ (four m ++ four n) ≡ sub_lists p (four r ++ (four s ++ four t)) (drop k C)
-less_three p r l m n C s t k e f g =
-    let d : k + 8 ≡ k + 4 + 4 = omega arith in
-    append_eq e (less_two p s m n C t (k + 4) f (g ∙ ap (λ (i : ℕ). sub_lists p (four t) (drop i C)) d)) ∙ less_more p r (four s ++ four t) C k
 
 -- the constants from place i on, taken off
 abbrev sub_at : ℕ → List ℕ → ℕ → List ℕ → List ℕ
@@ -78,24 +67,3 @@ less_four p b C k e f g h =
   where
     at : (n i j : ℕ) → i ≡ j → sub p (get_or b n 0) (get_or C i 0) ≡ sub p (get_or b n 0) (get_or C j 0)
     at n i j d = ap (λ (m : ℕ). sub p (get_or b n 0) (get_or C m 0)) d
-
--- ---- a state of two and three blocks
-
-pub whole_two : (xs a b : List ℕ) → length xs ≡ 8 → a ≡ take 4 (drop 0 xs) → b ≡ take 4 (drop 4 xs) → a ++ b ≡ xs
-whole_two xs a b l e f =
-    let long : length (drop 4 xs) ≡ 4 = length-drop 4 xs ∙ omega (arith, l) in
-    ap₂ (λ (x y : List ℕ). x ++ y) e (f ∙ take_all 4 (drop 4 xs) (omega (arith, long))) ∙ take-append-drop 4 xs
-
-pub whole_three : (xs a b c : List ℕ) → length xs ≡ 12 → a ≡ take 4 (drop 0 xs) → b ≡ take 4 (drop 4 xs) → c ≡ take 4 (drop 8 xs) → a ++ b ++ c ≡ xs
-whole_three xs a b c l e f g =
-    let long : length (drop 4 xs) ≡ 8 = length-drop 4 xs ∙ omega (arith, l) in
-    let last : c ≡ take 4 (drop 4 (drop 4 xs)) = g ∙ ap (take 4) (sym (drop-drop 4 4 xs)) in
-    append_assoc a b c ∙ ap₂ (λ (x y : List ℕ). x ++ y) e (whole_two (drop 4 xs) b c long f last) ∙ take-append-drop 4 xs
-
--- a block that is read is of words where the state is
-pub read_words_lem : {p : ℕ} {xs b : List ℕ} → 0 < p → (i : ℕ) → Words p xs → b ≡ take 4 (drop i xs) → Words p b
-read_words_lem {p} {xs} pos i w e = subst (Words p) (sym e) (blocks.block_words pos i xs w)
-
--- a block of words
-pub block_words : {p : ℕ} → 0 < p → (b : List ℕ) → get_or b 0 0 < p → get_or b 1 0 < p → get_or b 2 0 < p → get_or b 3 0 < p → Words p (four b)
-block_words pos b e f g h = words_more pos e (words_more pos f (words_more pos g (words_more pos h (words_none pos))))

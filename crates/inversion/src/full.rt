@@ -1,13 +1,13 @@
 // A full round undone: M_E, then every word's seventh root, less its constant. The roots are taken for all words at once.
-ghost use Rattle.std.specs.Prelude.{◌≡◌, ◌+◌, ◌≤◌, length, drop};
+ghost use Rattle.std.specs.Prelude.{◌≡◌, ◌+◌, ◌*◌, ◌≤◌, length, drop};
 ghost use Rattle.fields.specs.Prime.{prime};
 ghost use Rattle.poseidon2.specs.Inverse.{sub_lists, unfull_round};
 ghost use Rattle.poseidon2.specs.Statements.{Width, Words};
-ghost use Rattle.blocks.specs.Blocks.{four};
+ghost use Rattle.blocks.specs.Blocks.{four, flat};
 ghost use Rattle.inversion.specs.Kept.{WordsBelow};
 
-use crate::external::{block_at, put_block, unexternal8, unexternal12, unm4};
-use fields::{difference, seventh_roots4, seventh_roots8, seventh_roots12};
+use crate::external::{read_blocks, unexternal_blocks, write_blocks};
+use fields::{difference, seventh_roots};
 
 // A block less the constants from place `at` on.
 fn less(block: [u64; 4], constants: &[u64; 208], at: usize) -> [u64; 4]
@@ -22,33 +22,27 @@ fn less(block: [u64; 4], constants: &[u64; 208], at: usize) -> [u64; 4]
     ]
 }
 
-// A block alone got nothing from others.
-fn unround4(constants: &[u64; 208], at: usize, state: &mut [u64])
-    requires { (length state.old ≡ 4) × (at + 4 ≤ 208) × WordsBelow prime (at + 4) constants.now × Words prime state.old }
-    ensures { state.new ≡ unfull_round prime (drop at constants.now) state.old }
+// The same of the blocks of a state.
+#[inline(always)]
+fn less_blocks<const B: usize>(x: [[u64; 4]; B], constants: &[u64; 208], at: usize) -> [[u64; 4]; B]
+    requires { (at + 4 * B ≤ 208) × WordsBelow prime (at + 4 * B) constants.now × Words prime (flat B x) }
+    ensures { flat B result ≡ sub_lists prime (flat B x.entry) (drop at constants.now) }
 {
-    let r = seventh_roots4(unm4(block_at(0, state)));
-    put_block(less(r, constants, at), 0, state);
+    let mut r = x;
+    for i in 0..B {
+        r[i] = less(x[i], constants, at + 4 * i);
+    }
+    r
 }
 
-fn unround8(constants: &[u64; 208], at: usize, state: &mut [u64])
-    requires { (length state.old ≡ 8) × (at + 8 ≤ 208) × WordsBelow prime (at + 8) constants.now × Words prime state.old }
+// A state of B blocks.
+fn unround_in<const B: usize>(constants: &[u64; 208], at: usize, state: &mut [u64])
+    requires { (length state.old ≡ 4 * B) × Width (length state.old) × (at + 4 * B ≤ 208) × WordsBelow prime (at + 4 * B) constants.now × Words prime state.old }
     ensures { state.new ≡ unfull_round prime (drop at constants.now) state.old }
 {
-    let r = seventh_roots8(unexternal8(block_at(0, state), block_at(4, state)));
-    put_block(less(r[0], constants, at), 0, state);
-    put_block(less(r[1], constants, at + 4), 4, state);
-}
-
-fn unround12(constants: &[u64; 208], at: usize, state: &mut [u64])
-    requires { (length state.old ≡ 12) × (at + 12 ≤ 208) × WordsBelow prime (at + 12) constants.now × Words prime state.old }
-    ensures { state.new ≡ unfull_round prime (drop at constants.now) state.old }
-{
-    let x = unexternal12(block_at(0, state), block_at(4, state), block_at(8, state));
-    let r = seventh_roots12(x);
-    put_block(less(r[0], constants, at), 0, state);
-    put_block(less(r[1], constants, at + 4), 4, state);
-    put_block(less(r[2], constants, at + 8), 8, state);
+    let x: [[u64; 4]; B] = read_blocks(state);
+    let r = seventh_roots(unexternal_blocks(x));
+    write_blocks(less_blocks(r, constants, at), state);
 }
 
 // The constants are those from place `at` on.
@@ -56,13 +50,9 @@ pub fn unround(constants: &[u64; 208], at: usize, state: &mut [u64])
     requires { Width (length state.old) × (at + length state.old ≤ 208) × WordsBelow prime (at + length state.old) constants.now × Words prime state.old }
     ensures { state.new ≡ unfull_round prime (drop at constants.now) state.old }
 {
-    if state.len() == 4 {
-        unround4(constants, at, state);
-        return;
+    match state.len() {
+        4 => unround_in::<1>(constants, at, state),
+        8 => unround_in::<2>(constants, at, state),
+        _ => unround_in::<3>(constants, at, state),
     }
-    if state.len() == 8 {
-        unround8(constants, at, state);
-        return;
-    }
-    unround12(constants, at, state);
 }

@@ -43,7 +43,7 @@ fn times<const B: usize>(a: [[u64; 4]; B], b: [[u64; 4]; B]) -> [[u64; 4]; B]
 {
     let mut r = a;
     for i in 0..B {
-        r[i] = times4(r[i], b[i]);
+        r[i] = times4(a[i], b[i]);
     }
     r
 }
@@ -54,7 +54,7 @@ fn squares<const B: usize>(x: [[u64; 4]; B]) -> [[u64; 4]; B]
 {
     let mut r = x;
     for i in 0..B {
-        r[i] = squares4(r[i]);
+        r[i] = squares4(x[i]);
     }
     r
 }
@@ -65,7 +65,7 @@ fn words<const B: usize>(x: [[u64; 4]; B]) -> [[u64; 4]; B]
 {
     let mut r = x;
     for i in 0..B {
-        r[i] = words4(r[i]);
+        r[i] = words4(x[i]);
     }
     r
 }

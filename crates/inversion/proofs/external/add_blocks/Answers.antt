@@ -1,7 +1,5 @@
-use mathlib.Core.Path.{sym}
-use native.Mathlib.Omega.{arith}
-use Rattle.fields.specs.Prime.{prime}
-use Rattle.inversion.proofs.Blocks.{add-four}
+use Rattle.poseidon2.specs.Layers.{add_lists}
+use Rattle.blocks.proofs.Lists.{four_eq}
 use Rattle.inversion.proofs.external.add_blocks.Goals as goal
 
 pub sum-requires : goal.sum-requires
@@ -17,6 +15,5 @@ pub sum-requires-4 : goal.sum-requires-4
 sum-requires-4 c = (c.requires.0.at 3, c.requires.1.at 3)
 
 pub returns : goal.returns
-returns c =
-    let a = c.args in
-    rw (c.sum-4.ensures, c.sum-3.ensures, c.sum-2.ensures, c.sum.ensures) (sym (add-four prime a.a a.b (omega arith)))
+unfolding add_lists
+returns c = four_eq c.sum.ensures c.sum-2.ensures c.sum-3.ensures c.sum-4.ensures

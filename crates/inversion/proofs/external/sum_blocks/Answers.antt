@@ -1,43 +1,22 @@
-use mathlib.Core.Path.{◌≡◌, ap, ◌∙◌}
-use mathlib.Core.List.{List}
-use Prim.Native.Nat.{ℕ, ◌+◌, ◌-◌}
+use mathlib.Core.Path.{sym, subst}
 use native.Mathlib.Omega.{arith}
-use lib.ListN.{drop}
 use Rattle.fields.specs.Prime.{prime}
-use Rattle.poseidon2.specs.Layers.{add_lists, blocks, sum_blocks}
 use Rattle.fields.proofs.Prime.{positive}
-use Rattle.inversion.proofs.Blocks.{sum-none, sum_more, sum-words, block_words}
+use Rattle.poseidon2.specs.Statements.{Words}
+use Rattle.poseidon2.proofs.Words.{add_lists-words}
+use Rattle.inversion.proofs.Flat.{words_at, total_first, total_more, total_all}
 use Rattle.inversion.proofs.external.sum_blocks.Goals as goal
 
 pub loop-i-init : goal.loop-i-init
-loop-i-init c =
-    (omega arith, c.requires.0, sum-none prime c.args.state.now)
+loop-i-init g c = total_first prime g.row.B c.args.x c.requires.0 (words_at positive c.args.x g.row.B c.requires.1 0 c.requires.0)
 
 pub add_blocks-next-requires : goal.add_blocks-next-requires
-add_blocks-next-requires c =
-    (rw c.block_at.ensures (block_words positive (c.loop-i.i - 4) c.args.state.now c.requires.1), rw c.loop-i.invariant.2 (sum-words positive (blocks (drop c.loop-i.i c.args.state.now))))
+add_blocks-next-requires g c = (c.loop-i.invariant.words, words_at positive c.args.x g.row.B c.requires.1 c.loop-i.i (omega arith))
 
 pub loop-i-preserved : goal.loop-i-preserved
-loop-i-preserved c =
-    let xs = c.args.state.now in
-    let i = c.loop-i.i in
-    let e : i ≡ i - 4 + 4 = omega arith in (
-      omega arith,
-      omega arith,
-      c.add_blocks-next.ensures ∙ ap (λ (b : List ℕ). add_lists prime b c.loop-i.total) c.block_at.ensures
-          ∙ sum_more prime (i - 4) xs c.loop-i.total (omega arith) (c.loop-i.invariant.2 ∙ ap (λ (n : ℕ). sum_blocks prime (blocks (drop n xs))) e),
-    )
+loop-i-preserved g c =
+    total_more prime c.add_blocks-next.result c.loop-i.invariant (omega arith) (subst (Words prime) (sym c.add_blocks-next.ensures) (add_lists-words positive _ _))
+    c.add_blocks-next.ensures
 
 pub returns : goal.returns
-returns c =
-    let e : c.loop-i.i ≡ 0 = omega arith in
-    c.loop-i.invariant.2 ∙ ap (λ (n : ℕ). sum_blocks prime (blocks (drop n c.args.state.now))) e
-
-pub overflow_sub-i : goal.overflow_sub-i
-overflow_sub-i c = omega arith
-
-pub block_at-requires : goal.block_at-requires
-block_at-requires c = omega arith
-
-pub loop-i-smaller : goal.loop-i-smaller
-loop-i-smaller c = omega arith
+returns g c = total_all prime c.loop-i.invariant (omega arith)

@@ -1,5 +1,6 @@
-use native.Mathlib.Omega.{arith}
+use mathlib.Core.Path.{refl}
 use lib.ListN.{get_or}
+use Rattle.blocks.specs.Blocks.{four}
 use Rattle.inversion.proofs.Words.{sub_word}
 use Rattle.inversion.proofs.Parts.{restored, divided, unm4_steps}
 use Rattle.inversion.proofs.external.unm4.Goals as goal
@@ -49,9 +50,9 @@ returns c =
     let t0 = c.quarter-t0.result in
     let d = c.half-d.result in
     let b = c.half-b.result in
-    unm4_steps x c.requires t3 t2 t1 t0 c.difference-5.result b c.difference-6.result d
+    unm4_steps (four x) c.requires t3 t2 t1 t0 c.difference-5.result b c.difference-6.result d
     (restored (get_or x 0 0) (get_or x 1 0) c.difference-t3.ensures) (restored (get_or x 2 0) (get_or x 3 0) c.difference-t2.ensures)
     (divided 4 t1 (get_or x 3 0) t3 c.quarter-t1.ensures.1 c.difference.ensures) (divided 4 t0 (get_or x 1 0) t2 c.quarter-t0.ensures.1 c.difference-2.ensures)
     (divided 2 d t3 t0 c.half-d.ensures.1 c.difference-3.ensures) (divided 2 b t2 t1 c.half-b.ensures.1 c.difference-4.ensures)
     (restored t0 b c.difference-5.ensures) (restored t1 d c.difference-6.ensures)
-    (omega arith) (rw c.difference-5.ensures (sub_word _ _)) c.half-b.ensures.0 (rw c.difference-6.ensures (sub_word _ _)) c.half-d.ensures.0
+    refl (rw c.difference-5.ensures (sub_word _ _)) c.half-b.ensures.0 (rw c.difference-6.ensures (sub_word _ _)) c.half-d.ensures.0
