@@ -21,9 +21,7 @@ fn unfull_rounds(rounds: usize, constants: &[u64; 208], at: usize, state: &mut [
     requires { Width (length state.old) × Words prime state.old × (at + length state.old * rounds ≤ 208) × WordsBelow prime (at + length state.old * rounds) constants.now }
     ensures { state.new ≡ unfull_rounds prime (length state.old) rounds (drop at constants.now) state.old }
 {
-    let mut i = rounds;
-    while i > 0 {
-        i -= 1;
+    for i in (0..rounds).rev() {
         unround(constants, at + state.len() * i, state);
     }
 }

@@ -50,9 +50,3 @@ returns c =
     let xs = a.state.now in
     let e : c.loop-i.i ≡ 0 = omega arith in
     c.loop-i.invariant.1 ∙ ap (full_from (length xs) a.constants.now a.at a.rounds xs) e ∙ full_all (length xs) a.constants.now a.at a.rounds xs
-
-pub overflow_sub-i : goal.overflow_sub-i
-overflow_sub-i c = omega arith
-
-pub loop-i-smaller : goal.loop-i-smaller
-loop-i-smaller c = omega arith

@@ -9,6 +9,3 @@ use Rattle.inversion.proofs.unfull_rounds.Given as goal
 
 abbrev pub invariant-loop-i : goal.invariant-loop-i
 invariant-loop-i l = (l.i ≤ l.rounds) × (l.state ≡ full_from (length l.initial.state) l.constants l.at l.rounds l.initial.state l.i) × State prime (length l.initial.state) l.state
-
-abbrev pub decreases-loop-i : goal.decreases-loop-i
-decreases-loop-i l = l.i
