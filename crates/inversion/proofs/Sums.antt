@@ -90,14 +90,13 @@ dot_none es ys n =
 pub dot_all : (es ys : List ℕ) (n : ℕ) → dot_from es ys n 0 ≡ dot (take n es) ys
 dot_all es ys n = ap (λ (m : ℕ). dot (take m es) ys) (sub-zero n)
 
--- a block more: b stands for its products, and m is the word that the total stands for
-pub dot_more : {p total b m t : ℕ} (es ys : List ℕ) (n i : ℕ) → 4 ≤ i → i ≤ n → total ≈⟨ p ⟩ dot_from es ys n i
-    → b ≈⟨ p ⟩ dot (take 4 (drop (i - 4) es)) (drop (i - 4) ys) → m ≡ total % p → t ≈⟨ p ⟩ b + m → t ≈⟨ p ⟩ dot_from es ys n (i - 4)
-dot_more {p} {total} es ys n i h l e g q f =
-    let count : n - (i - 4) ≡ suc (suc (suc (suc (n - i)))) = omega arith in
-    let back : i - 4 + 4 ≡ i = omega arith in
-    let split : dot_from es ys n (i - 4) ≡ dot (take 4 (drop (i - 4) es)) (drop (i - 4) ys) + dot_from es ys n i =
-    ap (λ (k : ℕ). dot (take k (drop (i - 4) es)) (drop (i - 4) ys)) count
-    ∙ dot_from_lem (n - i) (i - 4) es ys
-    ∙ ap₂ (λ (a k : ℕ). a + dot (take (n - i) (drop k es)) (drop k ys)) (sym (dot_block (i - 4) es ys)) back in
+-- a block more, at place j: b stands for its products, and m is the word that the total stands for
+pub dot_more : {p total b m t : ℕ} (es ys : List ℕ) (n i j : ℕ) → j + 4 ≡ i → i ≤ n → total ≈⟨ p ⟩ dot_from es ys n i
+    → b ≈⟨ p ⟩ dot (take 4 (drop j es)) (drop j ys) → m ≡ total % p → t ≈⟨ p ⟩ b + m → t ≈⟨ p ⟩ dot_from es ys n j
+dot_more {p} {total} es ys n i j back l e g q f =
+    let count : n - j ≡ suc (suc (suc (suc (n - i)))) = omega arith in
+    let split : dot_from es ys n j ≡ dot (take 4 (drop j es)) (drop j ys) + dot_from es ys n i =
+    ap (λ (k : ℕ). dot (take k (drop j es)) (drop j ys)) count
+    ∙ dot_from_lem (n - i) j es ys
+    ∙ ap₂ (λ (a k : ℕ). a + dot (take (n - i) (drop k es)) (drop k ys)) (sym (dot_block j es ys)) back in
     trans≈ f (trans≈ (add≈ g (trans≈ (eq≈ q) (trans≈ (mod≈ total) e))) (eq≈ (sym split)))

@@ -18,12 +18,10 @@ pub fn zero_place(count: usize, numbers: &[u64]) -> usize
     requires { count ≤ length numbers.now }
     ensures { result ≡ zero_place (take count numbers.now) }
 {
-    let mut i = 0;
-    while i < count {
+    for i in 0..count {
         if numbers[i] == 0 {
             return i;
         }
-        i += 1;
     }
     count
 }
@@ -45,10 +43,8 @@ fn weighted_sum(inverses: &[u64; 12], state: &[u64]) -> u64
     ensures { result ≈⟨ prime ⟩ dot (take (length state.now) inverses.now) (residues prime state.now) }
 {
     let mut total = 0;
-    let mut i = state.len();
-    while i > 0 {
-        i -= 4;
-        total = lazy_sum(weighted_block(inverses, i, state), residue(total));
+    for i in (0..state.len() / 4).rev() {
+        total = lazy_sum(weighted_block(inverses, 4 * i, state), residue(total));
     }
     total
 }
@@ -66,13 +62,12 @@ fn multiples_less(s: u64, inverses: &[u64; 12], state: &mut [u64])
     requires { (s < prime) × (length state.old ≤ 12) × (length state.old % 4 ≡ 0) }
     ensures { residues prime state.new ≡ multiples_less prime s inverses.now (residues prime state.old) }
 {
-    let mut i = 0;
-    while i < state.len() {
+    for block in 0..state.len() / 4 {
+        let i = 4 * block;
         state[i] = multiple_less(s, inverses[i], state[i]);
         state[i + 1] = multiple_less(s, inverses[i + 1], state[i + 1]);
         state[i + 2] = multiple_less(s, inverses[i + 2], state[i + 2]);
         state[i + 3] = multiple_less(s, inverses[i + 3], state[i + 3]);
-        i += 4;
     }
 }
 
@@ -82,9 +77,7 @@ fn sum_of(state: &[u64]) -> u64
     ensures { result ≡ sum (residues prime state.now) % prime }
 {
     let mut total = 0;
-    let mut i = state.len();
-    while i > 0 {
-        i -= 1;
+    for i in (0..state.len()).rev() {
         total = lazy_sum(total, residue(state[i]));
     }
     residue(total)
@@ -94,10 +87,8 @@ fn sum_of(state: &[u64]) -> u64
 pub fn settle(state: &mut [u64])
     ensures { state.new ≡ residues prime state.old }
 {
-    let mut i = 0;
-    while i < state.len() {
-        state[i] = residue(state[i]);
-        i += 1;
+    for x in state.iter_mut() {
+        *x = residue(*x);
     }
 }
 

@@ -40,9 +40,7 @@ fn unpartial_rounds(
     requires { Width (length state.old) × Words prime state.old × (at + rounds ≤ 208) × WordsBelow prime (at + rounds) constants.now × (zero ≡ zero_place (take (length state.old) inverses.now)) × (length inverses.now ≡ 12) }
     ensures { state.new ≡ unpartial_rounds_by prime (take (length state.old) inverses.now) total_inverse rounds (drop at constants.now) state.old }
 {
-    let mut i = rounds;
-    while i > 0 {
-        i -= 1;
+    for i in (0..rounds).rev() {
         uninternal(zero, inverses, total_inverse, state);
         let root = lazy_seventh_root(state[0]);
         state[0] = lazy_difference(root, constants[at + i]);

@@ -71,9 +71,6 @@ returns c =
     c.settle.ensures ∙ c.loop-i.invariant.1
     ∙ ap (partial_from es a.total_inverse a.constants.now a.at a.rounds xs) e ∙ partial_all es a.total_inverse a.constants.now a.at a.rounds xs
 
-pub overflow_sub-i : goal.overflow_sub-i
-overflow_sub-i c = omega arith
-
 pub lazy_seventh_root-root-requires : goal.lazy_seventh_root-root-requires
 lazy_seventh_root-root-requires c = omega arith
 
@@ -85,9 +82,6 @@ offset_bounds-constants-at c = omega arith
 
 pub bounds-constants-at : goal.bounds-constants-at
 bounds-constants-at c = omega arith
-
-pub loop-i-smaller : goal.loop-i-smaller
-loop-i-smaller c = omega arith
 
 pub settle-requires : goal.settle-requires
 settle-requires c = omega arith

@@ -9,6 +9,3 @@ use Rattle.inversion.proofs.unpartial_rounds.Given as goal
 
 abbrev pub invariant-loop-i : goal.invariant-loop-i
 invariant-loop-i l = (l.i ≤ l.rounds) × (residues prime l.state ≡ partial_from (take (length l.initial.state) l.inverses) l.total_inverse l.constants l.at l.rounds l.initial.state l.i) × (length l.state ≡ length l.initial.state)
-
-abbrev pub decreases-loop-i : goal.decreases-loop-i
-decreases-loop-i l = l.i

@@ -21,7 +21,7 @@ share-added-requires g c = (search rules, (several c.requires.0 c.if-this-eq1.fa
 pub add_blocks-requires : goal.add_blocks-requires
 add_blocks-requires g c =
     let l = c.loop-i in (
-      words_at positive c.args.x g.row.B c.requires.1 l.i (omega arith),
+      words_at positive c.args.x g.row.B c.requires.1 _ (omega arith),
       elim c.if-this-eq1.branch [
         | then-this-eq1 w ↦ subst (λ (b : List ℕ). Words prime (four b)) (sym w.added-is) zero_words
         | else-this-eq1 w ↦ subst (Words prime) (sym (ap four w.added-is ∙ w.share-added.ensures)) (scaled_words _ _)

@@ -26,9 +26,6 @@ returns c =
     let e : c.loop-i.i ≡ 0 = omega arith in
     c.residue-2.ensures ∙ c.loop-i.invariant.1.same ∙ ap (λ (n : ℕ). sum (drop n ys) % prime) e ∙ sym (sum-residues prime ys).same
 
-pub overflow_sub-i : goal.overflow_sub-i
-overflow_sub-i c = omega arith
-
 pub offset_bounds-state-i : goal.offset_bounds-state-i
 offset_bounds-state-i c = omega arith
 
@@ -37,9 +34,6 @@ bounds-state-i c = omega arith
 
 pub residue-requires : goal.residue-requires
 residue-requires c = omega arith
-
-pub loop-i-smaller : goal.loop-i-smaller
-loop-i-smaller c = omega arith
 
 pub residue-requires-2 : goal.residue-requires-2
 residue-requires-2 c = omega arith

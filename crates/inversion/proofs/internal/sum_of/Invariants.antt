@@ -8,6 +8,3 @@ use Rattle.inversion.proofs.internal.sum_of.Given as goal
 
 abbrev pub invariant-loop-i : goal.invariant-loop-i
 invariant-loop-i l = (l.i ≤ length l.state) × (l.total ≈⟨ prime ⟩ sum (drop l.i l.state))
-
-abbrev pub decreases-loop-i : goal.decreases-loop-i
-decreases-loop-i l = l.i

@@ -1,6 +1,8 @@
-use mathlib.Core.Path.{◌≡◌, ap, ◌∙◌}
+use mathlib.Core.Path.{◌≡◌, ap, subst, ◌∙◌}
+use Prim.Native.Nat.{ℕ, ◌*◌, ◌-◌, ◌/◌}
 use native.Mathlib.Omega.{arith}
 use lib.ListN.{length}
+use Rattle.modular.specs.Congruence.{◌≈⟨◌⟩◌}
 use Rattle.modular.proofs.Congruence.{eq≈, trans≈}
 use Rattle.fields.specs.Prime.{prime}
 use Rattle.fields.proofs.Prime.{positive}
@@ -12,7 +14,10 @@ use Rattle.inversion.proofs.internal.weighted_sum.Goals as goal
 pub loop-i-init : goal.loop-i-init
 loop-i-init c =
     let a = c.args in
-    (omega arith, c.requires.1, dot_none a.inverses.now (residues prime a.state.now) (length a.state.now))
+    let n = length a.state.now in
+    let ys = residues prime a.state.now in
+    let whole : n ≡ 4 * (n / 4) = omega (arith, c.requires.1) in
+    (omega arith, subst (λ (k : ℕ). 0 ≈⟨ prime ⟩ dot_from a.inverses.now ys n k) whole (dot_none a.inverses.now ys n))
 
 pub lazy_sum-total-requires : goal.lazy_sum-total-requires
 lazy_sum-total-requires c = rw c.residue.ensures (below positive _)
@@ -20,24 +25,19 @@ lazy_sum-total-requires c = rw c.residue.ensures (below positive _)
 pub loop-i-preserved : goal.loop-i-preserved
 loop-i-preserved c =
     let a = c.args in
-    (omega arith, omega arith, dot_more a.inverses.now (residues prime a.state.now) (length a.state.now) c.loop-i.i (omega arith) c.loop-i.invariant.0 c.loop-i.invariant.2 c.weighted_block.ensures c.residue.ensures c.lazy_sum-total.ensures)
+    let i = c.loop-i.i in
+    (omega arith, dot_more a.inverses.now (residues prime a.state.now) (length a.state.now) (4 * i) (4 * (i - 1)) (omega arith) c.loop-i.invariant.0 c.loop-i.invariant.1 c.weighted_block.ensures c.residue.ensures c.lazy_sum-total.ensures)
 
 pub returns : goal.returns
 returns c =
     let a = c.args in
     let n = length a.state.now in
-    let e : c.loop-i.i ≡ 0 = omega arith in
+    let e : 4 * c.loop-i.i ≡ 0 = omega arith in
     let ys = residues prime a.state.now in
-    trans≈ c.loop-i.invariant.2 (eq≈ (ap (dot_from a.inverses.now ys n) e ∙ dot_all a.inverses.now ys n))
-
-pub overflow_sub-i : goal.overflow_sub-i
-overflow_sub-i c = omega arith
+    trans≈ c.loop-i.invariant.1 (eq≈ (ap (dot_from a.inverses.now ys n) e ∙ dot_all a.inverses.now ys n))
 
 pub weighted_block-requires : goal.weighted_block-requires
 weighted_block-requires c = (omega arith, omega arith)
 
 pub residue-requires : goal.residue-requires
 residue-requires c = omega arith
-
-pub loop-i-smaller : goal.loop-i-smaller
-loop-i-smaller c = omega arith

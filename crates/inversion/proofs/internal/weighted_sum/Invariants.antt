@@ -1,6 +1,5 @@
--- The loop's invariant: the products from place i on are added up.
-use mathlib.Core.Path.{◌≡◌}
-use Prim.Native.Nat.{◌%◌, ◌≤◌}
+-- The loop's invariant: the products from block i on are added up.
+use Prim.Native.Nat.{◌*◌, ◌≤◌}
 use lib.ListN.{length}
 use Rattle.modular.specs.Congruence.{◌≈⟨◌⟩◌}
 use Rattle.fields.specs.Prime.{prime}
@@ -9,7 +8,4 @@ use Rattle.inversion.proofs.Sums.{dot_from}
 use Rattle.inversion.proofs.internal.weighted_sum.Given as goal
 
 abbrev pub invariant-loop-i : goal.invariant-loop-i
-invariant-loop-i l = (l.i ≤ length l.state) × (l.i % 4 ≡ 0) × (l.total ≈⟨ prime ⟩ dot_from l.inverses (residues prime l.state) (length l.state) l.i)
-
-abbrev pub decreases-loop-i : goal.decreases-loop-i
-decreases-loop-i l = l.i
+invariant-loop-i l = (4 * l.i ≤ length l.state) × (l.total ≈⟨ prime ⟩ dot_from l.inverses (residues prime l.state) (length l.state) (4 * l.i))

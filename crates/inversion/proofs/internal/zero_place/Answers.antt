@@ -8,7 +8,7 @@ use Rattle.poseidon2.proofs.Zeros.{place_start, place_found, place_next, place_e
 use Rattle.inversion.proofs.internal.zero_place.Goals as goal
 
 pub loop-i-init : goal.loop-i-init
-loop-i-init c = (omega arith, place_start _)
+loop-i-init c = place_start _
 
 -- the part that is looked at, and a place in it
 part_length : (count : ℕ) (xs : List ℕ) → count ≤ length xs → length (take count xs) ≡ count
@@ -20,24 +20,18 @@ inside count i xs fits h = subst (λ (n : ℕ). i < n) (sym (part_length count x
 pub returns-then-numbers-i-eq0 : goal.returns-then-numbers-i-eq0
 returns-then-numbers-i-eq0 c =
     let a = c.args in
-    sym (place_found _ _ c.loop-i.invariant.1 (inside a.count c.loop-i.i a.numbers.now c.requires (omega arith)) (get_or-take a.count a.numbers.now c.loop-i.i 0 (omega arith) ∙ c.if-numbers-i-eq0.true))
+    sym (place_found _ _ c.loop-i.invariant (inside a.count c.loop-i.i a.numbers.now c.requires (omega arith)) (get_or-take a.count a.numbers.now c.loop-i.i 0 (omega arith) ∙ c.if-numbers-i-eq0.true))
 
 pub loop-i-preserved : goal.loop-i-preserved
 loop-i-preserved c =
     let a = c.args in
-    (omega arith, place_next _ _ c.loop-i.invariant.1 (inside a.count c.loop-i.i a.numbers.now c.requires (omega arith)) (λ e. c.if-numbers-i-eq0.false (sym (get_or-take a.count a.numbers.now c.loop-i.i 0 (omega arith)) ∙ e)))
+    place_next _ _ c.loop-i.invariant (inside a.count c.loop-i.i a.numbers.now c.requires (omega arith)) (λ e. c.if-numbers-i-eq0.false (sym (get_or-take a.count a.numbers.now c.loop-i.i 0 (omega arith)) ∙ e))
 
 pub returns : goal.returns
 returns c =
     let a = c.args in
     let e : c.loop-i.i ≡ a.count = omega arith in
-    sym e ∙ sym (place_end _ _ c.loop-i.invariant.1 (omega (arith, part_length a.count a.numbers.now c.requires)))
+    sym e ∙ sym (place_end _ _ c.loop-i.invariant (omega (arith, part_length a.count a.numbers.now c.requires)))
 
 pub bounds-numbers-i : goal.bounds-numbers-i
 bounds-numbers-i c = omega arith
-
-pub overflow_add-i : goal.overflow_add-i
-overflow_add-i c = omega arith
-
-pub loop-i-smaller : goal.loop-i-smaller
-loop-i-smaller c = omega arith

@@ -1,11 +1,7 @@
 -- The loop's invariant: none of the places passed is 0.
-use Prim.Native.Nat.{◌-◌, ◌≤◌}
 use lib.ListN.{take}
 use Rattle.poseidon2.proofs.Zeros.{PlaceFrom}
 use Rattle.inversion.proofs.internal.zero_place.Given as goal
 
 abbrev pub invariant-loop-i : goal.invariant-loop-i
-invariant-loop-i l = (l.i ≤ l.count) × PlaceFrom (take l.count l.numbers) l.i
-
-abbrev pub decreases-loop-i : goal.decreases-loop-i
-decreases-loop-i l = l.count - l.i
+invariant-loop-i l = PlaceFrom (take l.count l.numbers) l.i
