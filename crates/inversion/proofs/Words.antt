@@ -16,10 +16,6 @@ use Rattle.poseidon2.proofs.Internal.{by_sum_state, at_zero_state}
 use Rattle.poseidon2.proofs.Rounds.{invertible}
 use Rattle.inversion.specs.Kept.{uninternal_by, unpartial_round_by, unpartial_rounds_by}
 
-pub add-word : (a b : ℕ) → add prime a b < prime
-unfolding add
-add-word a b = mod-lt (a + b) positive
-
 pub mul-word : (a b : ℕ) → mul prime a b < prime
 unfolding mul
 mul-word a b = mod-lt (a * b) positive

@@ -59,9 +59,6 @@ loop-i-preserved c =
     ∙ partial_more es k C at c.args.rounds xs i zs (r % prime) c.loop-i-test.true c.loop-i.invariant.0 c.loop-i.invariant.1 d in
     (omega arith, q, simp length-set (omega arith))
 
-pub shape_of-state : goal.shape_of-state
-shape_of-state c = omega arith
-
 pub returns : goal.returns
 returns c =
     let a = c.args in
@@ -70,18 +67,3 @@ returns c =
     let e : c.loop-i.i ≡ 0 = omega arith in
     c.settle.ensures ∙ c.loop-i.invariant.1
     ∙ ap (partial_from es a.total_inverse a.constants.now a.at a.rounds xs) e ∙ partial_all es a.total_inverse a.constants.now a.at a.rounds xs
-
-pub lazy_seventh_root-root-requires : goal.lazy_seventh_root-root-requires
-lazy_seventh_root-root-requires c = omega arith
-
-pub overflow_add-at : goal.overflow_add-at
-overflow_add-at c = omega arith
-
-pub offset_bounds-constants-at : goal.offset_bounds-constants-at
-offset_bounds-constants-at c = omega arith
-
-pub bounds-constants-at : goal.bounds-constants-at
-bounds-constants-at c = omega arith
-
-pub settle-requires : goal.settle-requires
-settle-requires c = omega arith

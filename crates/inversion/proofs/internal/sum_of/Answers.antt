@@ -25,15 +25,3 @@ returns c =
     let ys = c.args.state.now in
     let e : c.loop-i.i ≡ 0 = omega arith in
     c.residue-2.ensures ∙ c.loop-i.invariant.1.same ∙ ap (λ (n : ℕ). sum (drop n ys) % prime) e ∙ sym (sum-residues prime ys).same
-
-pub offset_bounds-state-i : goal.offset_bounds-state-i
-offset_bounds-state-i c = omega arith
-
-pub bounds-state-i : goal.bounds-state-i
-bounds-state-i c = omega arith
-
-pub residue-requires : goal.residue-requires
-residue-requires c = omega arith
-
-pub residue-requires-2 : goal.residue-requires-2
-residue-requires-2 c = omega arith

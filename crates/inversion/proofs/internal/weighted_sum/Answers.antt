@@ -35,9 +35,3 @@ returns c =
     let e : 4 * c.loop-i.i ≡ 0 = omega arith in
     let ys = residues prime a.state.now in
     trans≈ c.loop-i.invariant.1 (eq≈ (ap (dot_from a.inverses.now ys n) e ∙ dot_all a.inverses.now ys n))
-
-pub weighted_block-requires : goal.weighted_block-requires
-weighted_block-requires c = (omega arith, omega arith)
-
-pub residue-requires : goal.residue-requires
-residue-requires c = omega arith

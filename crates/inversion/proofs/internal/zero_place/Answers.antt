@@ -32,6 +32,3 @@ returns c =
     let a = c.args in
     let e : c.loop-i.i ≡ a.count = omega arith in
     sym e ∙ sym (place_end _ _ c.loop-i.invariant (omega (arith, part_length a.count a.numbers.now c.requires)))
-
-pub bounds-numbers-i : goal.bounds-numbers-i
-bounds-numbers-i c = omega arith
