@@ -6,7 +6,7 @@ use Prim.Native.Nat.{ℕ, zero, suc, ◌+◌, ◌*◌, ◌-◌, ◌%◌, ◌<◌
 use native.Mathlib.Nat.{mod-lt}
 use lib.Dec.{eqb}
 use lib.ListN.{take, drop, length-map}
-use Rattle.modular.specs.Arithmetic.{add, sub, mul, seventh_root}
+use Rattle.modular.specs.Arithmetic.{sub, mul, seventh_root}
 use Rattle.fields.specs.Prime.{prime}
 use Rattle.fields.proofs.Prime.{positive, prime_field, prime_laws}
 use Rattle.poseidon2.specs.Inverse.{scaled, zeros, zero_place, uninternal_by_sum, uninternal_at_zero, seventh_roots, unexternal, unraise_first, unfull_round, unfull_rounds}
