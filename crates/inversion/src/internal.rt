@@ -18,12 +18,10 @@ pub fn zero_place(count: usize, numbers: &[u64]) -> usize
     requires { count ≤ length numbers.now }
     ensures { result ≡ zero_place (take count numbers.now) }
 {
-    for i in 0..count {
-        if numbers[i] == 0 {
-            return i;
-        }
-    }
-    count
+    numbers[..count]
+        .iter()
+        .position(|number| *number == 0)
+        .unwrap_or(count)
 }
 
 // The four numbers from place `at` on, each times its inverse, added up: a number that stands for the sum.

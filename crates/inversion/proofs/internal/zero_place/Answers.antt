@@ -1,34 +1,26 @@
-use mathlib.Core.Path.{◌≡◌, sym, subst, ◌∙◌}
-use mathlib.Core.List.{List}
-use Prim.Native.Nat.{ℕ, ◌<◌, ◌≤◌}
-use native.Mathlib.Omega.{arith}
-use lib.ListN.{length, take}
-use lib.Seq.{length-take-le, get_or-take}
-use Rattle.poseidon2.proofs.Zeros.{place_start, place_found, place_next, place_end}
+use Rattle.std.proofs.Common.{◌≡◌, ℕ, ◌≤◌, Some, None, cond, eqb, ltb, length, take, refl, sym, ap, ◌∙◌, arith, rules, length-take-le}
+use Rattle.std.specs.Option.{unwrap_or}
+use Rattle.std.proofs.lemmas.Iterator.{YieldsList-from_slice}
+use Rattle.std.proofs.lemmas.Iterator.Search.{position_from_yields_List}
+use Rattle.std.proofs.lemmas.List.Recursion.{is_position_or_len}
+use Rattle.std.proofs.lemmas.Bool.Decides.{nat_tests}
+use Rattle.poseidon2.specs.Inverse.{zero_place}
+use Rattle.poseidon2.proofs.Zeros.{place_beyond, place_none}
 use Rattle.inversion.proofs.internal.zero_place.Goals as goal
 
-pub loop-i-init : goal.loop-i-init
-loop-i-init c = place_start _
-
--- the part that is looked at, and a place in it
-part_length : (count : ℕ) (xs : List ℕ) → count ≤ length xs → length (take count xs) ≡ count
-part_length count xs fits = length-take-le count xs fits
-
-inside : (count i : ℕ) (xs : List ℕ) → count ≤ length xs → i < count → i < length (take count xs)
-inside count i xs fits h = subst (λ (n : ℕ). i < n) (sym (part_length count xs fits)) h
-
-pub returns-then-numbers-i-eq0 : goal.returns-then-numbers-i-eq0
-returns-then-numbers-i-eq0 c =
-    let a = c.args in
-    sym (place_found _ _ c.loop-i.invariant (inside a.count c.loop-i.i a.numbers.now c.requires (omega arith)) (get_or-take a.count a.numbers.now c.loop-i.i 0 (omega arith) ∙ c.if-numbers-i-eq0.true))
-
-pub loop-i-preserved : goal.loop-i-preserved
-loop-i-preserved c =
-    let a = c.args in
-    place_next _ _ c.loop-i.invariant (inside a.count c.loop-i.i a.numbers.now c.requires (omega arith)) (λ e. c.if-numbers-i-eq0.false (sym (get_or-take a.count a.numbers.now c.loop-i.i 0 (omega arith)) ∙ e))
+-- a place among n, or n
+place_or_count : (k n : ℕ) → (n ≤ k → k ≡ n) → unwrap_or (cond (ltb k n) (Some k) None) n ≡ k
+place_or_count k n h = grind (arith, nat_tests)
 
 pub returns : goal.returns
+unfolding zero_place
 returns c =
-    let a = c.args in
-    let e : c.loop-i.i ≡ a.count = omega arith in
-    sym e ∙ sym (place_end _ _ c.loop-i.invariant (omega (arith, part_length a.count a.numbers.now c.requires)))
+    let count = c.args.count in
+    let xs = take count c.args.numbers.now in
+    let first = position_from_yields_List (λ x. eqb x 0) _ _ c.position.result c.position.ensures.ran (YieldsList-from_slice xs cc) (λ x b q k. search (rules, nat_tests)) in
+    let place = is_position_or_len zero_place (λ x. eqb x 0) refl (λ x xs. refl) xs in
+    let all : length xs ≡ count = length-take-le count c.args.numbers.now c.requires in
+    c.unwrap_or.ensures
+    ∙ ap (λ o. unwrap_or o count) (first ∙ ap (λ (k : ℕ). cond (ltb k (length xs)) (Some k) None) (sym place))
+    ∙ ap (λ (n : ℕ). unwrap_or (cond (ltb (zero_place xs) (length xs)) (Some (zero_place xs)) None) n) (sym all)
+    ∙ place_or_count (zero_place xs) (length xs) (λ h. place_none xs (place_beyond xs h))
