@@ -40,29 +40,12 @@ done_more f i xs st r e h g =
     let here : get_or st i 0 ≡ get_or xs i 0 = ap (λ (l : List ℕ). get_or l i 0) e ∙ done_ahead f i xs i (omega arith) in
     rw (e, g ∙ ap (f i) here, add-one i) (done_step f i xs h)
 
--- the same where the numbers stand for words: four turns more
-module _ (p : ℕ) (f : ℕ → ℕ → ℕ) where
-  lazy_more : (i j : ℕ) (xs st : List ℕ) (r : ℕ) → residues p st ≡ done f i (residues p xs) → i < length xs → i + 1 ≡ j → r % p ≡ f i (get_or st i 0 % p)
-      → residues p (set st i r) ≡ done f j (residues p xs)
-  lazy_more i j xs st r e h n g =
-      set-residues p st i r
-      ∙ done_more f i (residues p xs) (residues p st) (r % p) e (omega (arith, residues_length p xs)) (g ∙ ap (f i) (sym (get_d_residues p st i)))
-      ∙ ap (λ (m : ℕ). done f m (residues p xs)) n
-
-  pub lazy_four : (i : ℕ) (xs st : List ℕ) (a b c d : ℕ) → residues p st ≡ done f i (residues p xs) → i + 4 ≤ length xs
-      → a % p ≡ f i (get_or st i 0 % p)
-      → b % p ≡ f (i + 1) (get_or (set st i a) (i + 1) 0 % p)
-      → c % p ≡ f (i + 2) (get_or (set (set st i a) (i + 1) b) (i + 2) 0 % p)
-      → d % p ≡ f (i + 3) (get_or (set (set (set st i a) (i + 1) b) (i + 2) c) (i + 3) 0 % p)
-      → residues p (set (set (set (set st i a) (i + 1) b) (i + 2) c) (i + 3) d) ≡ done f (i + 4) (residues p xs)
-  lazy_four i xs st a b c d e h ea eb ec ed =
-      lazy_more (i + 3) (i + 4) xs (set (set (set st i a) (i + 1) b) (i + 2) c) d
-      (lazy_more (i + 2) (i + 3) xs (set (set st i a) (i + 1) b) c
-      (lazy_more (i + 1) (i + 2) xs (set st i a) b
-      (lazy_more i (i + 1) xs st a e (omega arith) refl ea)
-      (omega arith) (omega arith) eb)
-      (omega arith) (omega arith) ec)
-      (omega arith) (omega arith) ed
+-- the same where the numbers stand for words
+pub lazy_more : (p : ℕ) (f : ℕ → ℕ → ℕ) (i : ℕ) (xs st : List ℕ) (r : ℕ) → residues p st ≡ done f i (residues p xs) → i < length xs → r % p ≡ f i (get_or st i 0 % p)
+    → residues p (set st i r) ≡ done f (i + 1) (residues p xs)
+lazy_more p f i xs st r e h g =
+    set-residues p st i r
+    ∙ done_more f i (residues p xs) (residues p st) (r % p) e (omega (arith, residues_length p xs)) (g ∙ ap (f i) (sym (get_d_residues p st i)))
 
 -- all the places
 pub done_multiples : (p s : ℕ) (es ys : List ℕ) → done (λ k y. mul p (get_or es k 0) (sub p y s)) (length ys) ys ≡ multiples_less p s es ys

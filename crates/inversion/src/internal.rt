@@ -1,5 +1,5 @@
 // M_I undone on lazy numbers, from the inverses of D, 0 for a 0, and the inverse of 1 plus their sum. Word 0 is wanted first, for its root, and
-// made last: so sums go from the last word to it. Four numbers are done a turn.
+// made last: so sums go from the last word to it. The weighted sum takes four numbers a turn, and one reduction for them.
 ghost use Rattle.std.specs.Prelude.{◌≡◌, ◌+◌, ◌%◌, ◌<◌, ◌≤◌, length, take, drop, set};
 ghost use Rattle.modular.specs.Arithmetic.{mul, sub};
 ghost use Rattle.modular.specs.Congruence.{◌≈⟨◌⟩◌};
@@ -57,15 +57,11 @@ fn multiple_less(s: u64, inverse: u64, x: u64) -> u64
 
 // Each inverse times what `s` leaves of its number.
 fn multiples_less(s: u64, inverses: &[u64; 12], state: &mut [u64])
-    requires { (s < prime) × (length state.old ≤ 12) × (length state.old % 4 ≡ 0) }
+    requires { (s < prime) × (length state.old ≤ 12) }
     ensures { residues prime state.new ≡ multiples_less prime s inverses.now (residues prime state.old) }
 {
-    for block in 0..state.len() / 4 {
-        let i = 4 * block;
+    for i in 0..state.len() {
         state[i] = multiple_less(s, inverses[i], state[i]);
-        state[i + 1] = multiple_less(s, inverses[i + 1], state[i + 1]);
-        state[i + 2] = multiple_less(s, inverses[i + 2], state[i + 2]);
-        state[i + 3] = multiple_less(s, inverses[i + 3], state[i + 3]);
     }
 }
 

@@ -25,7 +25,7 @@ word c =
 
 pub multiples_less-requires : goal.multiples_less-requires
 multiples_less-requires c =
-    (word (goal.at.multiples_less-requires c).After-old_sum-s, c.requires.1, c.requires.2)
+    (word (goal.at.multiples_less-requires c).After-old_sum-s, c.requires.1)
 
 pub put_rest-requires : goal.put_rest-requires
 put_rest-requires c =
