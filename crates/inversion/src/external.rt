@@ -115,6 +115,7 @@ pub fn unexternal_blocks<const B: usize>(x: [[u64; 4]; B]) -> [[u64; 4]; B]
     r
 }
 
+// The same in a state of so many blocks.
 fn unexternal_in<const B: usize>(state: &mut [u64])
     requires { (length state.old ≡ 4 * B) × Width (length state.old) × Words prime state.old }
     ensures { state.new ≡ unexternal prime state.old }
@@ -123,7 +124,7 @@ fn unexternal_in<const B: usize>(state: &mut [u64])
     write_blocks(unexternal_blocks(x), state);
 }
 
-// In a state.
+// And in a state of any width.
 pub fn unexternal(state: &mut [u64])
     requires { Width (length state.old) × Words prime state.old }
     ensures { state.new ≡ unexternal prime state.old }

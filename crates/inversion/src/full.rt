@@ -35,7 +35,7 @@ fn less_blocks<const B: usize>(x: [[u64; 4]; B], constants: &[u64; 208], at: usi
     r
 }
 
-// A state of B blocks.
+// A state of so many blocks.
 fn unround_in<const B: usize>(constants: &[u64; 208], at: usize, state: &mut [u64])
     requires { (length state.old ≡ 4 * B) × Width (length state.old) × (at + 4 * B ≤ 208) × WordsBelow prime (at + 4 * B) constants.now × Words prime state.old }
     ensures { state.new ≡ unfull_round prime (drop at constants.now) state.old }

@@ -1,5 +1,5 @@
 // M_I undone on lazy numbers, from the inverses of D, 0 for a 0, and the inverse of 1 plus their sum. Word 0 is wanted first, for its root, and
-// made last: so sums go from the last word to it. The weighted sum takes four numbers a turn, and one reduction for them.
+// made last: so sums go from the last word to it. The weighted sum takes four numbers a turn.
 ghost use Rattle.std.specs.Prelude.{◌≡◌, ◌+◌, ◌%◌, ◌<◌, ◌≤◌, length, take, drop, set};
 ghost use Rattle.modular.specs.Arithmetic.{mul, sub};
 ghost use Rattle.modular.specs.Congruence.{◌≈⟨◌⟩◌};

@@ -93,7 +93,8 @@ enum Factor {
     Same,
 }
 
-// The chain: how often each step squares the numbers reached, and what it multiplies them by then.
+// The chain: how often each step squares the numbers reached, and what it multiplies them by then. The ones at the end of the exponent are
+// reached one by one.
 const CHAIN: [(usize, Factor); 9] = [
     (3, Factor::Word),
     (6, Factor::Reached),
