@@ -2,11 +2,11 @@ use mathlib.Core.Path.{◌≡◌, sym, ap, subst, ◌∙◌}
 use mathlib.Core.List.{List}
 use Prim.Native.Nat.{ℕ, ◌*◌}
 use native.Mathlib.Omega.{arith}
-use Rattle.std.proofs.Common.{rules}
+use Rattle.std.proofs.Common.{◌<◌, ◌≢◌, length, length-set, rules, get_or-set_other, get_or-set_same, below_more}
 use Rattle.fields.specs.Prime.{prime}
 use Rattle.fields.proofs.Prime.{positive}
 use Rattle.poseidon2.specs.Statements.{Words}
-use Rattle.poseidon2.specs.Inverse.{unexternal}
+use Rattle.poseidon2.specs.Inverse.{unm4, unexternal}
 use Rattle.poseidon2.proofs.Words.{add_lists-words}
 use Rattle.blocks.specs.Blocks.{four, flat}
 use Rattle.inversion.proofs.Words.{zero_words, scaled_words}
@@ -30,6 +30,15 @@ add_blocks-requires g c =
 
 pub unm4-requires : goal.unm4-requires
 unm4-requires g c = subst (Words prime) (sym c.add_blocks.ensures) (add_lists-words positive _ _)
+
+pub loop-i-preserved : goal.loop-i-preserved
+loop-i-preserved g c =
+    let l = c.loop-i in (
+      simp length-set l.invariant.0,
+      below_more _ _
+          (λ k h. let other : k ≢ l.i = omega arith in rw get_or-set_other (l.invariant.1 k h))
+          (let here : l.i < length l.r = omega arith in rw get_or-set_same (c.unm4.ensures ∙ ap (unm4 prime) c.add_blocks.ensures)),
+    )
 
 pub returns : goal.returns
 returns g c =
