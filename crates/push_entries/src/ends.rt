@@ -36,10 +36,9 @@ pub fn begin(set: ParameterSet, store: &[u64], count: usize) -> Result<Tally, Re
     })
 }
 
-// The first of refusals 11, 12 and 17 that applies, or the count.
+// The first of refusals 11, 12 and 17 that applies, or the count, of a push that none of 1 to 10 stopped.
 pub fn finish(tally: Tally) -> Result<u64, Refusal>
-    requires { tally.number ≡ 0 }
-    ensures { changed_reply result ≡ finish_of tally }
+    ensures { tally.number ≡ 0 → changed_reply result ≡ finish_of tally }
 {
     if !tally.placed {
         return Err(Refusal::BadPlace);

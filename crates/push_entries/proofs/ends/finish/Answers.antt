@@ -24,13 +24,13 @@ module _ (t : Tally) (z : t.number ≡ 0) where
   made p w d = simp (eq-eqb _ _ z, p, w, d)
 
 pub returns-then-not-tally : goal.returns-then-not-tally
-returns-then-not-tally c = misplaced _ c.requires (not-true _ c.if-not-tally.true)
+returns-then-not-tally c z = misplaced _ z (not-true _ c.if-not-tally.true)
 
 pub returns-then-not-tally-2 : goal.returns-then-not-tally-2
-returns-then-not-tally-2 c = no_words _ c.requires (not-false _ c.if-not-tally.false) (not-true _ c.if-not-tally-2.true)
+returns-then-not-tally-2 c z = no_words _ z (not-false _ c.if-not-tally.false) (not-true _ c.if-not-tally-2.true)
 
 pub returns-then-not-tally-3 : goal.returns-then-not-tally-3
-returns-then-not-tally-3 c = twice _ c.requires (not-false _ c.if-not-tally.false) (not-false _ c.if-not-tally-2.false) (not-true _ c.if-not-tally-3.true)
+returns-then-not-tally-3 c z = twice _ z (not-false _ c.if-not-tally.false) (not-false _ c.if-not-tally-2.false) (not-true _ c.if-not-tally-3.true)
 
 pub returns : goal.returns
-returns c = made _ c.requires (not-false _ c.if-not-tally.false) (not-false _ c.if-not-tally-2.false) (not-false _ c.if-not-tally-3.false)
+returns c z = made _ z (not-false _ c.if-not-tally.false) (not-false _ c.if-not-tally-2.false) (not-false _ c.if-not-tally-3.false)

@@ -26,14 +26,11 @@ sweep-swept-requires c =
     sweep_asks _ _ c.args.records.now c.well_formed.1.1.0.1 _ c.in_ok-begun.ensures.begun _ c.each-tested.ensures.0 _ c.search-searched.ensures
     _ _ c.each-marked.ensures c.each-marked.auto.buffer _ _ c.rise-risen.ensures c.rise-risen.auto.store
 
-pub finish-requires : goal.finish-requires
-finish-requires c =
-    finish_asks _ _ c.args.records.now c.well_formed.1.1.0.1 _ c.in_ok-begun.ensures.begun _ c.each-tested.ensures.0 _ c.search-searched.ensures
-    _ _ c.each-marked.ensures c.each-marked.auto.buffer _ _ c.rise-risen.ensures c.rise-risen.auto.store
-    _ _ c.sweep-swept.ensures (sym c.in_ok-begun.ensures.refused)
-
 pub returns : goal.returns
 returns c =
     is_pushed _ _ c.args.records.now c.well_formed.1.1.0.1 _ c.in_ok-begun.ensures.begun _ c.each-tested.ensures.0 _ c.search-searched.ensures
     _ _ c.each-marked.ensures c.each-marked.auto.buffer _ _ c.rise-risen.ensures c.rise-risen.auto.store
-    _ _ c.sweep-swept.ensures _ c.finish.ensures
+    _ _ c.sweep-swept.ensures _ (c.finish.ensures
+    (finish_asks _ _ c.args.records.now c.well_formed.1.1.0.1 _ c.in_ok-begun.ensures.begun _ c.each-tested.ensures.0 _ c.search-searched.ensures
+    _ _ c.each-marked.ensures c.each-marked.auto.buffer _ _ c.rise-risen.ensures c.rise-risen.auto.store
+    _ _ c.sweep-swept.ensures (sym c.in_ok-begun.ensures.refused)))

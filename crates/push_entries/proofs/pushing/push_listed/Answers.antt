@@ -39,14 +39,11 @@ sweep-swept-requires c =
     sweep_asks _ _ c.args.numbers.now _ c.in_ok-begun.ensures.begun c.well_formed.1.1.0.1 _ c.each-tested.ensures.0 _ c.search-searched.ensures
     _ _ c.mark_listed-marked.ensures c.mark_listed-marked.auto.store _ _ c.rise-risen.ensures c.rise-risen.auto.store
 
-pub finish-requires : goal.finish-requires
-finish-requires c =
-    finish_asks _ _ c.args.numbers.now _ c.in_ok-begun.ensures.begun c.well_formed.1.1.0.1 _ c.each-tested.ensures.0 _ c.search-searched.ensures
-    _ _ c.mark_listed-marked.ensures c.mark_listed-marked.auto.store _ _ c.rise-risen.ensures c.rise-risen.auto.store
-    _ _ c.sweep-swept.ensures (sym c.in_ok-begun.ensures.refused)
-
 pub returns : goal.returns
 returns c =
     whole_is_pushed _ _ c.args.numbers.now _ c.in_ok-begun.ensures.begun c.well_formed.1.1.0.1 _ c.each-tested.ensures.0 _ c.search-searched.ensures
     _ _ c.mark_listed-marked.ensures c.mark_listed-marked.auto.store _ _ c.rise-risen.ensures c.rise-risen.auto.store
-    _ _ c.sweep-swept.ensures c.if-numbers-ne0.false _ c.finish.ensures
+    _ _ c.sweep-swept.ensures c.if-numbers-ne0.false _ (c.finish.ensures
+    (finish_asks _ _ c.args.numbers.now _ c.in_ok-begun.ensures.begun c.well_formed.1.1.0.1 _ c.each-tested.ensures.0 _ c.search-searched.ensures
+    _ _ c.mark_listed-marked.ensures c.mark_listed-marked.auto.store _ _ c.rise-risen.ensures c.rise-risen.auto.store
+    _ _ c.sweep-swept.ensures (sym c.in_ok-begun.ensures.refused)))
