@@ -5,11 +5,10 @@ ghost use Rattle.std.specs.Prelude.{◌≡◌, ◌<◌, ◌≤◌, length, take,
 ghost use Rattle.streams.specs.declared.TheConstants.{CAPACITY};
 ghost use Rattle.std.specs.Io.KnownBytes.{Consumes, IsAtEnd};
 
-use std::fmt;
-use std::io;
 use std::io::{Print, Read, Stdout};
+use std::{fmt, io};
 
-// Reads to the end, or until the buffer is full: how many bytes stand at its start.
+// Reads to the end, or until the buffer is full: how many bytes stand at its start. (No heap: std's `read_to_end` fills a `Vec`.)
 pub fn read_full<R: Read>(from: &mut R, buffer: &mut [u8]) -> io::Result<usize>
     ensures within { IfOk result (λ n. n ≤ length buffer.new) }
     ensures bytes { IfOk result (λ n. Consumes (R.remaining from.old) (R.remaining from.new) (take n buffer.new)) }
@@ -28,7 +27,8 @@ pub fn read_full<R: Read>(from: &mut R, buffer: &mut [u8]) -> io::Result<usize>
 
 const CAPACITY: usize = 4096;
 
-// Standard output, with a fixed buffer before it. After a write that failed nothing more is written, and `flush` gives the error.
+// Standard output, with a fixed buffer before it (no heap: std's `BufWriter` allocates its own). After a write that failed nothing more is
+// written, and `flush` gives the error.
 #[derive(Drop)]
 pub struct Output {
     stdout: Stdout,
