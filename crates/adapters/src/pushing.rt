@@ -4,9 +4,9 @@ ghost use Rattle.change_entries.specs.Replacement.{changed_reply};
 ghost use Rattle.push_entries.specs.Pushes.{push_reply, pushed};
 ghost use Rattle.adapters.specs.Listed.{first_records};
 
-use change_entries::Changed;
 use parameters::ParameterSet;
 use records::{Record, listing};
+use refusals::Refusal;
 
 // A push of the first records of an array.
 pub fn push_first(
@@ -14,7 +14,7 @@ pub fn push_first(
     store: &mut [u64],
     records: [Record; 192],
     count: usize,
-) -> Changed
+) -> Result<u64, Refusal>
     requires { count ≤ 192 }
     ensures { (changed_reply result ≡ push_reply set store.old (take count records))
         × (store.new ≡ pushed set store.old (take count records)) }
@@ -23,7 +23,7 @@ pub fn push_first(
 }
 
 // A push of the records of a list with seven numbers for each, at most 192.
-pub fn push_list(set: ParameterSet, store: &mut [u64], numbers: &[u64]) -> Changed
+pub fn push_list(set: ParameterSet, store: &mut [u64], numbers: &[u64]) -> Result<u64, Refusal>
     ensures { (changed_reply result ≡ push_reply set store.old (first_records numbers.now))
         × (store.new ≡ pushed set store.old (first_records numbers.now)) }
 {
