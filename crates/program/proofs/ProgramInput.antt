@@ -13,30 +13,6 @@ use Rattle.parameters.specs.ParameterSet.{validation}
 use Rattle.octets.specs.Numbers.{little_endian, numbers_of}
 use Rattle.octets.proofs.LittleEndian.{numbers_more}
 
--- t * R_F + R_P, where the list is no longer than it and where it is
-module _ (t rf rp most : ℕ) where
-  pub count_over : most < rp → most ≡ min (constant_count t rf rp) most
-  unfolding constant_count
-  count_over h = sym (min-eq_right (omega arith))
-
-  pub count_none : rp ≤ most → rf ≡ 0 → rp ≡ min (constant_count t rf rp) most
-  unfolding constant_count
-  count_none h e =
-      let z : t * rf ≡ 0 = rw (e, mul-zero) in
-      let s : t * rf + rp ≡ rp = omega arith in
-      sym (min-eq_left (omega arith) ∙ s)
-
-  pub count_beyond : rp ≤ most → (rf ≡ 0 → ⊥) → (most - rp) / rf < t → most ≡ min (constant_count t rf rp) most
-  unfolding constant_count
-  count_beyond h o l = sym (min-eq_right (omega (arith, (div-lt_iff_lt-mul {k = rf} {x = most - rp} {y = t} (pos_of_ne-zero o)).0 l)))
-
-  pub count_fits : rp ≤ most → (rf ≡ 0 → ⊥) → t ≤ (most - rp) / rf → t * rf + rp ≤ most
-  count_fits h o l = omega (arith, (le-div_iff_mul-le {k = rf} {x = t} {y = most - rp} (pos_of_ne-zero o)).0 l)
-
-  pub count_within : t * rf + rp ≤ most → t * rf + rp ≡ min (constant_count t rf rp) most
-  unfolding constant_count
-  count_within h = sym (min-eq_left h)
-
 -- What is cut off at a list's length is the same part.
 pub first_of : (n : ℕ) (xs : List ℕ) → take (min n (length xs)) xs ≡ take n xs
 first_of n xs = by (dec_lt n (length xs))
@@ -44,13 +20,6 @@ first_of n xs = by (dec_lt n (length xs))
     by : Dec (n < length xs) → take (min n (length xs)) xs ≡ take n xs
     by (yes h) = ap (λ (k : ℕ). take k xs) (min-eq_left {n = n} {m = length xs} (omega arith))
     by (no h) = ap (λ (k : ℕ). take k xs) (min-eq_right {n = length xs} {m = n} (omega arith)) ∙ take_all (length xs) xs (omega arith) ∙ sym (take_all n xs (omega arith))
-
-pub beyond_of : (n : ℕ) (xs : List ℕ) → drop (min n (length xs)) xs ≡ drop n xs
-beyond_of n xs = by (dec_lt n (length xs))
-  where
-    by : Dec (n < length xs) → drop (min n (length xs)) xs ≡ drop n xs
-    by (yes h) = ap (λ (k : ℕ). drop k xs) (min-eq_left {n = n} {m = length xs} (omega arith))
-    by (no h) = ap (λ (k : ℕ). drop k xs) (min-eq_right {n = length xs} {m = n} (omega arith)) ∙ drop_of_length-le xs {i = length xs} (omega arith) ∙ sym (drop_of_length-le xs {i = n} (omega arith))
 
 pub decoded_more : (out bytes : List ℕ) (i v : ℕ) → i < length out → v ≡ little_endian (take 8 (drop (8 * i) bytes)) → take i out ≡ numbers_of 8 i bytes
     → take (i + 1) (set out i v) ≡ numbers_of 8 (i + 1) bytes
@@ -65,12 +34,6 @@ to_end n xs = take_all (length xs - n) (drop n xs) (omega (arith, length-drop n 
 pub same_take : {m n : ℕ} {xs ys : List ℕ} → m ≡ n → xs ≡ ys → take m xs ≡ take n ys
 same_take e f = ap₂ (λ (k : ℕ) (zs : List ℕ). take k zs) e f
 
-pub same_drop : {m n : ℕ} {xs ys : List ℕ} → m ≡ n → xs ≡ ys → drop m xs ≡ drop n ys
-same_drop e f = ap₂ (λ (k : ℕ) (zs : List ℕ). drop k zs) e f
-
 pub same_validation : (p : ℕ) {t t' l l' h h' rf rf' rp rp' : ℕ} {D D' C C' : List ℕ} → t ≡ t' → l ≡ l' → h ≡ h' → rf ≡ rf' → rp ≡ rp' → D ≡ D' → C ≡ C'
     → validation p t l h rf rp D C ≡ validation p t' l' h' rf' rp' D' C'
 same_validation p a b c d e f g = rw (a, b, c, d, e, f, g)
-
-pub same_count : {t t' rf rf' rp rp' most most' : ℕ} → t ≡ t' → rf ≡ rf' → rp ≡ rp' → most ≡ most' → min (constant_count t rf rp) most ≡ min (constant_count t' rf' rp') most'
-same_count a b c d = rw (a, b, c, d)

@@ -12,16 +12,15 @@ use borrow.Author.Tests.{lt-ltb, le-ltb, eq-eqb, ne_eqb}
 use Rattle.refusals.specs.Table.{Refusal, refusal, not_words, first_refusal, refused, done, reply, after}
 use Rattle.refusals.proofs.Table.{Numbered, next, numbered_append, first_front, reply_refused, written_after, applied, passed}
 use Rattle.parameters.specs.declared.ParameterSet.{ParameterSet}
-use Rattle.parameters.specs.declared.Validation.{Validation}
 use Rattle.fields.specs.Prime.{prime}
-use Rattle.parameters.specs.ParameterSet.{prime_of, held, validation, set_refusals}
+use Rattle.refusals.specs.Answers.{number_of}
+use Rattle.refusals.specs.declared.Refusal.{Refusal as Answered}
+use Rattle.refusals.proofs.Answers.{nonzero}
+use Rattle.parameters.specs.ParameterSet.{Validation, turned_down, prime_of, held, validation, set_refusals}
 use Rattle.parameters.proofs.Validated.{is_held, held_taken, shape}
 use Rattle.parameters.specs.Refusals.{validation_refusals}
 use Rattle.parameters.proofs.Accepted.{numbers_numbered, lists_numbered, set-numbered, width_fits}
 use Rattle.merkle.specs.Storeless.{storeless_root}
-use Rattle.state_entries.specs.declared.outcome.Outcome.{Outcome}
-use Rattle.state_entries.specs.declared.outcome.Outcome.TheVariants.{Done, Refused}
-use Rattle.state_entries.specs.Permutation.{outcome_reply}
 use Rattle.trees.specs.SetTrees.{tree_of_set, leaf_words}
 use Rattle.tree_entries.specs.Trees.{has, storeless_refusals, storeless_reply, storeless_rooted}
 use Rattle.octets.specs.Numbers.{numbers_of, digits, decimal}
@@ -141,20 +140,24 @@ module _ (ns : List ℕ) (v : Validation) (e : v ≡ read_validation ns) where
           by_refusals ∙ done_too leaf_refusals [] (read_root ns) (r ∙ by_leaves)
           ∙ ap done (written_after node (read_root ns) (sym r) ∙ ap (λ (s : ParameterSet). after (storeless_reply v.parameters (read_leaves ns) node) node (storeless_root (tree_of_set s) s.height (read_leaves ns))) (sym set-of))
 
-      -- The program's text, by the outcome.
-      pub refused_text : (leaves : List ℕ) (o : Outcome) (n : ℕ) → leaves ≡ read_leaves ns → o ≡ Refused n → outcome_reply o ≡ storeless_reply v.parameters leaves node
+      -- The program's text, by what the storeless root answers.
+      pub refused_text : (leaves : List ℕ) (n : ℕ) → leaves ≡ read_leaves ns → refused n ≡ storeless_reply v.parameters leaves node
           → refused_line n ≡ reply_text (reply (read_refusals ns) (read_root ns))
-      unfolding outcome_reply reply_text
-      refused_text leaves o n same told r =
-          let said : refused n ≡ storeless_reply v.parameters (read_leaves ns) node = sym (ap outcome_reply told) ∙ r ∙ ap (λ (xs : List ℕ). storeless_reply v.parameters xs node) same in
-          sym (ap reply_text (root_refused n said))
+      unfolding reply_text
+      refused_text leaves n same r =
+          sym (ap reply_text (root_refused n (r ∙ ap (λ (xs : List ℕ). storeless_reply v.parameters xs node) same)))
 
-      pub done_text : (leaves written : List ℕ) (o : Outcome) → leaves ≡ read_leaves ns → o ≡ Done → outcome_reply o ≡ storeless_reply v.parameters leaves node
+      pub done_text : (leaves written : List ℕ) → leaves ≡ read_leaves ns → done [] ≡ storeless_reply v.parameters leaves node
           → written ≡ storeless_rooted v.parameters leaves node → lines written ≡ reply_text (reply (read_refusals ns) (read_root ns))
-      unfolding outcome_reply reply_text
-      done_text leaves written o same told r w =
-          let made : done [] ≡ storeless_reply v.parameters (read_leaves ns) node = sym (ap outcome_reply told) ∙ r ∙ ap (λ (xs : List ℕ). storeless_reply v.parameters xs node) same in
-          ap lines (w ∙ ap (λ (xs : List ℕ). storeless_rooted v.parameters xs node) same) ∙ sym (ap reply_text (root_done made))
+      unfolding reply_text
+      done_text leaves written same r w =
+          ap lines (w ∙ ap (λ (xs : List ℕ). storeless_rooted v.parameters xs node) same)
+          ∙ sym (ap reply_text (root_done (r ∙ ap (λ (xs : List ℕ). storeless_reply v.parameters xs node) same)))
+
+-- A set that is turned down.
+pub turned_text : (ns : List ℕ) (r : Answered) → turned_down (number_of r) ≡ read_validation ns → refused_line (number_of r) ≡ reply_text (reply (read_refusals ns) (read_root ns))
+unfolding turned_down reply_text
+turned_text ns r e = sym (ap reply_text (is_refused ns (turned_down (number_of r)) e (nonzero r)))
 
 -- The byte count, which is tested first.
 module _ (n : ℕ) where

@@ -3,9 +3,8 @@ use Rattle.std.specs.Prelude.{◌≡◌, Bool, not, ◌||◌, List, [], ◌∷�
 use Rattle.octets.specs.Numbers.{numbers_of, decimal}
 use Rattle.refusals.specs.Table.{Refusal, refusal, not_words, Reply, refused, done, reply}
 use Rattle.parameters.specs.declared.ParameterSet.{ParameterSet}
-use Rattle.parameters.specs.declared.Validation.{Validation}
 use Rattle.fields.specs.Prime.{prime}
-use Rattle.parameters.specs.ParameterSet.{prime_of, held, validation}
+use Rattle.parameters.specs.ParameterSet.{Validation, prime_of, held, validation}
 use Rattle.parameters.specs.Refusals.{constant_count, validation_refusals}
 use Rattle.merkle.specs.Storeless.{storeless_root}
 use Rattle.trees.specs.SetTrees.{tree_of_set, leaf_words}

@@ -2,12 +2,13 @@
 #![tactic(auto)]
 
 ghost use Rattle.std.specs.Prelude.{◌≡◌, ◌+◌, ◌/◌, ◌≤◌, ◌<◌, min, length, take, drop};
+ghost use Rattle.refusals.specs.Answers.{number_of};
 ghost use Rattle.parameters.specs.Refusals.{constant_count};
+ghost use Rattle.parameters.specs.ParameterSet.{validation_of};
 ghost use Rattle.octets.specs.Numbers.{numbers_of};
 ghost use Rattle.program.specs.Program.{read_width, read_count, read_leaves, read_validation, lines, refused_line, read_text, root_text, written};
 
-use opening_tree::Outcome;
-use parameters::Validation;
+use opening_tree::{ParameterSet, Refusal};
 
 // The numbers of the bytes, and how many they are.
 fn decode(bytes: &[u8], numbers: &mut [u64]) -> usize
@@ -15,11 +16,8 @@ fn decode(bytes: &[u8], numbers: &mut [u64]) -> usize
     ensures { (result ≡ length bytes.now / 8) × (take result numbers.new ≡ numbers_of 8 result bytes.now) }
 {
     let count = bytes.len() / 8;
-    let mut i = 0;
-    while i < count {
-        let at = 8 * i;
-        numbers[i] = encoding::number_of(&bytes[at..]);
-        i += 1;
+    for i in 0..count {
+        numbers[i] = encoding::number_of(&bytes[8 * i..]);
     }
     count
 }
@@ -28,39 +26,25 @@ fn decode(bytes: &[u8], numbers: &mut [u64]) -> usize
 fn first(numbers: &[u64], n: u64) -> &[u64]
     ensures { result.now ≡ take n numbers.now }
 {
-    if n < numbers.len() as u64 {
-        let end = n as usize;
-        return &numbers[..end];
-    }
-    numbers
+    &numbers[..numbers.len().min(n as usize)]
 }
 
 // The numbers after the first n, or none.
 fn beyond(numbers: &[u64], n: u64) -> &[u64]
     ensures { result.now ≡ drop n numbers.now }
 {
-    if n < numbers.len() as u64 {
-        let start = n as usize;
-        return &numbers[start..];
-    }
-    let end = numbers.len();
-    &numbers[end..]
+    &numbers[numbers.len().min(n as usize)..]
 }
 
 // t * R_F + R_P, or the most that is asked for where that is less: nothing wraps.
+#[tactic(auto, unfolding(parameters::specs::Refusals::constant_count))]
 fn constant_count(width: u64, full_rounds: u64, partial_rounds: u64, most: u64) -> u64
     ensures { result ≡ min (constant_count width full_rounds partial_rounds) most }
 {
-    if most < partial_rounds {
-        return most;
-    }
-    if full_rounds == 0 {
-        return partial_rounds;
-    }
-    if (most - partial_rounds) / full_rounds < width {
-        return most;
-    }
-    width * full_rounds + partial_rounds
+    width
+        .saturating_mul(full_rounds)
+        .saturating_add(partial_rounds)
+        .min(most)
 }
 
 // The words in decimal, each on a line of its own.
@@ -70,21 +54,21 @@ fn put_lines(words: &[u64], output: &mut [u8]) -> usize
     ensures output_after { output.new ≡ written (lines words.now) output.old }
 {
     let mut at = 0;
-    let mut i = 0;
-    while i < words.len() {
-        let last = encoding::put_decimal(words[i], at, output);
+    for word in words {
+        let last = encoding::put_decimal(*word, at, output);
         output[last] = b'\n';
         at = last + 1;
-        i += 1;
     }
     at
 }
 
-fn put_refused(number: u8, output: &mut [u8]) -> usize
+// The line of a refusal.
+fn put_refused(refusal: Refusal, output: &mut [u8]) -> usize
     requires { length output.old ≡ 128 }
-    ensures value { result ≡ length (refused_line number) }
-    ensures output_after { output.new ≡ written (refused_line number) output.old }
+    ensures value { result ≡ length (refused_line (number_of refusal)) }
+    ensures output_after { output.new ≡ written (refused_line (number_of refusal)) output.old }
 {
+    let number = refusal.number();
     let at = encoding::put_bytes(b"refused ", 0, output);
     let end = encoding::put_decimal(number as u64, at, output);
     output[end] = b'\n';
@@ -120,8 +104,8 @@ fn leaves_read(numbers: &[u64]) -> &[u64]
 }
 
 // The set of the numbers, or the refusal of it.
-fn set_read(numbers: &[u64]) -> Validation
-    ensures { result ≡ read_validation numbers.now }
+fn set_read(numbers: &[u64]) -> Result<ParameterSet, Refusal>
+    ensures { validation_of result ≡ read_validation numbers.now }
 {
     let width = parameters::number_at(numbers, 0);
     let lists = beyond(numbers, 5);
@@ -143,17 +127,16 @@ fn text_of(numbers: &[u64], output: &mut [u8]) -> usize
     ensures value { result ≡ length (read_text numbers.now) }
     ensures output_after { output.new ≡ written (read_text numbers.now) output.old }
 {
-    let validated = set_read(numbers);
-    if validated.number != 0 {
-        return put_refused(validated.number, output);
-    }
-    let set = validated.parameters;
+    let set = match set_read(numbers) {
+        Ok(set) => set,
+        Err(refusal) => return put_refused(refusal, output),
+    };
     let size = set.node_size as usize;
     let mut places = [0u64; 6];
     let node = &mut places[..size];
     match opening_tree::storeless_root(set, leaves_read(numbers), node) {
-        Outcome::Done => put_lines(node, output),
-        Outcome::Refused(number) => put_refused(number, output),
+        Ok(()) => put_lines(node, output),
+        Err(refusal) => put_refused(refusal, output),
     }
 }
 
@@ -162,14 +145,8 @@ pub fn root_text(input: &[u8], output: &mut [u8; 128]) -> usize
     ensures value { result ≡ length (root_text input.now) }
     ensures output_after { output.new ≡ written (root_text input.now) output.old }
 {
-    if input.len() < 40 {
-        return put_refused(10, output);
-    }
-    if 65536 < input.len() {
-        return put_refused(10, output);
-    }
-    if input.len() % 8 != 0 {
-        return put_refused(10, output);
+    if input.len() < 40 || 65536 < input.len() || input.len() % 8 != 0 {
+        return put_refused(Refusal::BadLength, output);
     }
     let mut numbers = [0u64; 8192];
     let count = decode(input, &mut numbers);

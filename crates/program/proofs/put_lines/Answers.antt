@@ -10,51 +10,50 @@ use Rattle.program.proofs.put_lines.Goals as goal
 short : (words : List ℕ) → ((i : ℕ) → Fits w64 (get_or words i 0)) → (i : ℕ) → length (decimal (get_or words i 0)) ≤ 20
 short words fits i = decimal_word (get_or words i 0) (omega (arith, fits i))
 
-pub loop-i-init : goal.loop-i-init
+pub loop-word-init : goal.loop-word-init
 unfolding lines written
-loop-i-init c = record { within = omega arith; few = omega arith; value = refl; output_after = refl }
+loop-word-init c = record { few = omega arith; value = refl; output_after = refl }
 
 pub put_decimal-last-requires : goal.put_decimal-last-requires
 put_decimal-last-requires c =
-    let i = c.loop-i.i in
-    omega (arith, c.requires.0, c.requires.1, c.loop-i.auto.output, c.loop-i.invariant.few, short c.args.words.now c.type_inv.words i)
+    let i = c.loop-word.word-index in
+    omega (arith, c.requires.0, c.requires.1, c.loop-word.auto.output, c.loop-word.invariant.few, short c.args.words.now c.type_inv.words i)
 
 pub bounds-output-last : goal.bounds-output-last
 bounds-output-last c =
-    let i = c.loop-i.i in
+    let i = c.loop-word.word-index in
     let d = c.put_decimal-last in
-    omega (arith, c.requires.0, c.requires.1, c.loop-i.auto.output, c.loop-i.invariant.few, d.ensures.value, d.auto.output, short c.args.words.now c.type_inv.words i)
+    omega (arith, c.requires.0, c.requires.1, c.loop-word.auto.output, c.loop-word.invariant.few, d.ensures.value, d.auto.output, short c.args.words.now c.type_inv.words i)
 
 pub overflow_add-at : goal.overflow_add-at
 overflow_add-at c =
-    let i = c.loop-i.i in
-    omega (arith, c.requires.0, c.loop-i.invariant.few, c.put_decimal-last.ensures.value, short c.args.words.now c.type_inv.words i)
+    let i = c.loop-word.word-index in
+    omega (arith, c.requires.0, c.loop-word.invariant.few, c.put_decimal-last.ensures.value, short c.args.words.now c.type_inv.words i)
 
-pub loop-i-preserved : goal.loop-i-preserved
-loop-i-preserved c =
-    let i = c.loop-i.i in
-    let at = c.loop-i.at in
+pub loop-word-preserved : goal.loop-word-preserved
+loop-word-preserved c =
+    let i = c.loop-word.word-index in
+    let at = c.loop-word.at in
     let words = c.args.words.now in
     let w = get_or words i 0 in
     let d = c.put_decimal-last.ensures in
     let few : length (decimal w) ≤ 20 = short words c.type_inv.words i in
-    let within : at + length (decimal w) < length c.loop-i.output = omega (arith, c.requires.0, c.requires.1, c.loop-i.auto.output, c.loop-i.invariant.few) in
+    let within : at + length (decimal w) < length c.loop-word.output = omega (arith, c.requires.0, c.requires.1, c.loop-word.auto.output, c.loop-word.invariant.few) in
     record {
-      within = omega arith;
       few = omega (arith, d.value);
-      value = omega (arith, d.value, c.loop-i.invariant.value, lines_longer words i c.loop-i-test.true, line_length w);
+      value = omega (arith, d.value, c.loop-word.invariant.value, lines_longer words i c.loop-word-test.true, line_length w);
       output_after =
-          written_more c.args.output.now (lines (take i words)) (line w) c.loop-i.invariant.value c.loop-i.invariant.output_after
-          (put_more c.loop-i.output (decimal w) at newline within d.value d.output_after refl)
-          ∙ ap (λ (text : List ℕ). written text c.args.output.now) (sym (lines_more words i c.loop-i-test.true));
+          written_more c.args.output.now (lines (take i words)) (line w) c.loop-word.invariant.value c.loop-word.invariant.output_after
+          (put_more c.loop-word.output (decimal w) at newline within d.value d.output_after refl)
+          ∙ ap (λ (text : List ℕ). written text c.args.output.now) (sym (lines_more words i c.loop-word-test.true));
     }
 
 pub returns : goal.returns
 returns c =
     let words = c.args.words.now in
-    let e : c.loop-i.i ≡ length words = omega arith in
-    let all : lines (take c.loop-i.i words) ≡ lines words = ap (λ (k : ℕ). lines (take k words)) e ∙ ap lines (take-length words) in
+    let e : c.loop-word.word-index ≡ length words = omega arith in
+    let all : lines (take c.loop-word.word-index words) ≡ lines words = ap (λ (k : ℕ). lines (take k words)) e ∙ ap lines (take-length words) in
     record {
-      value = c.loop-i.invariant.value ∙ ap length all;
-      output_after = c.loop-i.invariant.output_after ∙ ap (λ (text : List ℕ). written text c.args.output.now) all;
+      value = c.loop-word.invariant.value ∙ ap length all;
+      output_after = c.loop-word.invariant.output_after ∙ ap (λ (text : List ℕ). written text c.args.output.now) all;
     }

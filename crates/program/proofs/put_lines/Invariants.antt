@@ -3,13 +3,9 @@ use Rattle.std.proofs.Common.{◌≡◌, ◌*◌, ◌-◌, ◌≤◌, length, ta
 use Rattle.program.specs.Program.{lines, written}
 use Rattle.program.proofs.put_lines.Given as goal
 
-abbrev pub invariant-loop-i : goal.invariant-loop-i
-invariant-loop-i l = record {
-  within : l.i ≤ length l.words;
-  few : l.at ≤ 21 * l.i;
-  value : l.at ≡ length (lines (take l.i l.words));
-  output_after : l.output ≡ written (lines (take l.i l.words)) l.initial.output;
+abbrev pub invariant-loop-word : goal.invariant-loop-word
+invariant-loop-word l = record {
+  few : l.at ≤ 21 * l.word-index;
+  value : l.at ≡ length (lines (take l.word-index l.words));
+  output_after : l.output ≡ written (lines (take l.word-index l.words)) l.initial.output;
 }
-
-abbrev pub decreases-loop-i : goal.decreases-loop-i
-decreases-loop-i l = length l.words - l.i
