@@ -5,7 +5,7 @@ use mathlib.Core.List.{List}
 use Prim.Native.Nat.{ℕ}
 use Rattle.refusals.specs.Table.{Reply}
 use Rattle.parameters.specs.declared.ParameterSet.{ParameterSet}
-use Rattle.parameters.specs.declared.Validation.{Validation}
+use Rattle.parameters.specs.ParameterSet.{Validation}
 use Rattle.replies.specs.Replies.{number_of, verdict_number, value_at}
 use Rattle.opening_tree_c.specs.Exports.{array_after}
 

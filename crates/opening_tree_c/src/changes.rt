@@ -20,7 +20,7 @@ pub extern "C" fn opening_tree_replace(
         × (made.new ≡ value_after (replace_reply (set_of set.now) store.old place leaf.now) made.old) }
 {
     let handed = set_arrays::read(set);
-    replies::of_changed(opening_tree::replace(handed, store, place, leaf), made)
+    replies::of_answer(opening_tree::replace(handed, store, place, leaf), made)
 }
 
 // The leaves of a list of records at their places and the nodes above them, seven numbers a record; the compressions made.
@@ -36,7 +36,7 @@ pub extern "C" fn opening_tree_push_numbers(
         × (made.new ≡ value_after (listed_reply (set_of set.now) store.old records.now) made.old) }
 {
     let handed = set_arrays::read(set);
-    replies::of_changed(opening_tree::push_listed(handed, store, records), made)
+    replies::of_answer(opening_tree::push_listed(handed, store, records), made)
 }
 
 // The lowest level at which the rows of two accepted leaves collide, and both rows.
@@ -59,7 +59,7 @@ pub extern "C" fn opening_tree_extract(
         × (level.new ≡ value_after (extract_reply (set_of set.now) (pair root.now place first.now first_siblings.now second.now second_siblings.now) first_row.old second_row.old) level.old) }
 {
     let handed = set_arrays::read(set);
-    replies::of_extraction(
+    replies::of_answer(
         opening_tree::extract(
             handed,
             root,

@@ -1,23 +1,24 @@
 // Parameter sets for C: each is an array of 238 numbers, which validation and the exchanges write.
 ghost use Rattle.std.specs.Prelude.{◌≡◌};
 ghost use Rattle.fields.specs.Prime.{prime};
-ghost use Rattle.parameters.specs.ParameterSet.{validation};
+ghost use Rattle.parameters.specs.ParameterSet.{validation, validation_of};
 ghost use Rattle.set_entries.specs.Exchange.{diagonal_exchanged, height_exchanged};
 ghost use Rattle.set_arrays.specs.Arrays.{set_of};
 ghost use Rattle.opening_tree_c.specs.Exports.{array_after};
 
-use parameters::Validation;
+use opening_tree::{ParameterSet, Refusal};
 
 // The set of an answer to the array, if it is one; the number of the answer.
-fn give(answer: Validation, set: &mut [u64; 238]) -> u8
-    ensures { (result ≡ answer.number) × (set.new ≡ array_after answer set.old) }
+fn give(answer: Result<ParameterSet, Refusal>, set: &mut [u64; 238]) -> u8
+    ensures { (result ≡ (validation_of answer).number) × (set.new ≡ array_after (validation_of answer) set.old) }
 {
-    if answer.number != 0 {
-        return answer.number;
+    match answer {
+        Ok(accepted) => {
+            set_arrays::write(accepted, set);
+            0
+        }
+        Err(refusal) => refusal.number(),
     }
-    let accepted = answer.parameters;
-    set_arrays::write(accepted, set);
-    0
 }
 
 // The set of these numbers and lists, to the array.

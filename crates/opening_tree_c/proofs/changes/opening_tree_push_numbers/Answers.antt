@@ -6,4 +6,4 @@ use Rattle.opening_tree_c.proofs.changes.opening_tree_push_numbers.Goals as goal
 pub returns : goal.returns
 returns c =
     let a = c.args in
-    entry_buffer_value c.read-handed.ensures (λ (s : ParameterSet). listed_reply s a.store.now a.records.now) (λ (s : ParameterSet). listed_pushed s a.store.now a.records.now) a.made.now c.of_changed.ensures c.push_listed.ensures
+    entry_buffer_value c.read-handed.ensures (λ (s : ParameterSet). listed_reply s a.store.now a.records.now) (λ (s : ParameterSet). listed_pushed s a.store.now a.records.now) a.made.now c.of_answer.ensures c.push_listed.ensures

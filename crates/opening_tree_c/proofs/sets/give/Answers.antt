@@ -1,26 +1,29 @@
-use mathlib.Core.Path.{◌≡◌, refl, sym, ap, ◌∙◌}
-use mathlib.Core.Logic.{◌≢◌}
-use mathlib.Core.Bool.{Bool, cond}
+use mathlib.Core.Path.{◌≡◌, refl}
 use mathlib.Core.List.{List}
 use Prim.Native.Nat.{ℕ}
-use borrow.Author.Tests.{eq-eqb, ne_eqb}
-use Rattle.parameters.specs.declared.Validation.{Validation}
+use borrow.Author.Tests.{ne_eqb}
+use Rattle.std.specs.Prelude.{Ok, Err}
+use Rattle.refusals.specs.Answers.{number_of, Answer}
+use Rattle.refusals.specs.declared.Refusal.{Refusal}
+use Rattle.refusals.proofs.Answers.{nonzero}
+use Rattle.parameters.specs.declared.ParameterSet.{ParameterSet}
+use Rattle.parameters.specs.ParameterSet.{turned_down, validation_of}
 use Rattle.set_arrays.specs.Arrays.{array_of}
 use Rattle.opening_tree_c.specs.Exports.{array_after}
 use Rattle.opening_tree_c.proofs.sets.give.Goals as goal
 
-written : (v : Validation) (old : List ℕ) {xs : List ℕ} → v.number ≡ 0 → xs ≡ array_of v.parameters → xs ≡ array_after v old
+written : (a : Answer ParameterSet) (s : ParameterSet) (old : List ℕ) {xs : List ℕ} → a ≡ Ok s → xs ≡ array_of s
+    → (0 ≡ (validation_of a).number) × (xs ≡ array_after (validation_of a) old)
 unfolding array_after
-written v old z e = e ∙ ap (λ (b : Bool). cond b (array_of v.parameters) old) (sym (eq-eqb v.number 0 z))
+written a s old e f = rw e (refl, f)
 
-stays : (v : Validation) (old : List ℕ) → v.number ≢ 0 → old ≡ array_after v old
-unfolding array_after
-stays v old o = ap (λ (b : Bool). cond b (array_of v.parameters) old) (sym (ne_eqb v.number 0 o))
+stays : (a : Answer ParameterSet) (r : Refusal) (old : List ℕ) {n : ℕ} → a ≡ Err r → n ≡ number_of r
+    → (n ≡ (validation_of a).number) × (old ≡ array_after (validation_of a) old)
+unfolding array_after turned_down
+stays a r old e f = rw e (f, rw (ne_eqb (number_of r) 0 (nonzero r)))
 
-pub returns-then-answer-ne0 : goal.returns-then-answer-ne0
-returns-then-answer-ne0 c =
-    (refl, stays c.args.answer c.args.set.now c.if-answer-ne0.true)
+pub returns-in-Ok : goal.returns-in-Ok
+returns-in-Ok c = written _ _ _ c.in-Ok.is c.write.ensures
 
-pub returns : goal.returns
-returns c =
-    (sym c.if-answer-ne0.false, written c.args.answer c.args.set.now c.if-answer-ne0.false c.write.ensures)
+pub returns-in-Err : goal.returns-in-Err
+returns-in-Err c = stays _ _ _ c.in-Err.is c.number.ensures
