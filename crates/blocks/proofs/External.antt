@@ -1,10 +1,11 @@
 -- M_E as code makes it, by its halves: the sums and M4 block by block, on numbers that stay below p, and the one after the other.
-use mathlib.Core.Path.{◌≡◌, refl, sym, ap, ap₂, ◌∙◌}
-use mathlib.Core.List.{List, [], ◌∷◌, ◌++◌}
-use Prim.Native.Nat.{ℕ, zero, suc, ◌+◌, ◌%◌, ◌<◌}
-use native.Mathlib.Nat.{zero-mod, mod-eq_of_lt}
+use mathlib.Core.Path.{◌≡◌, refl, sym, ap, ap₂, subst, ◌∙◌}
+use mathlib.Core.Logic.{◌≢◌, inl, inr}
+use mathlib.Core.List.{List, [], ◌∷◌, map}
+use Prim.Native.Nat.{ℕ, zero, suc, ◌+◌, ◌*◌, ◌/◌, ◌%◌, ◌<◌, ◌≤◌}
+use native.Mathlib.Nat.{add-zero, zero-add, add_assoc, mul-suc, mod-eq_of_lt}
 use native.Mathlib.Omega.{arith}
-use lib.ListN.{length, get_or}
+use lib.ListN.{get_or, drop}
 use Rattle.modular.specs.Arithmetic.{add}
 use Rattle.modular.proofs.Congruence.{refl≈, mod≈, add≈}
 use Rattle.poseidon2.specs.Layers.{add_lists, rows_times, m4_rows, m4, blocks, join_blocks, sum_blocks, add_to_each, mixed, external, sums, m4_blocks}
@@ -12,29 +13,38 @@ use Rattle.poseidon2.specs.Residues.{residues}
 use Rattle.poseidon2.specs.Statements.{Width}
 use Rattle.poseidon2.proofs.Words.{add_lists_right}
 use Rattle.poseidon2.proofs.SumsFirst.{sums_then_m4_lem, block_alone}
-use Rattle.blocks.specs.Blocks.{four}
-use Rattle.blocks.specs.Halves.{exact_m4, plus, Within, AllWithin}
+use Rattle.blocks.specs.Blocks.{four, flat_from, flat}
+use Rattle.blocks.specs.Halves.{half, exact_m4, plus, total, joins, Within, AllWithin}
 use Rattle.blocks.proofs.Lists.{four_eq, append_eq}
-use Rattle.blocks.proofs.Halves.{Parts, joins, external_joined}
+use Rattle.blocks.proofs.Each.{flat_by, flat_length}
+use Rattle.blocks.proofs.Halves.{parts_of, external_joined}
 
 -- ---- blocks that are within a bound
 
-pub within_two : {n : ℕ} (a b : List ℕ) → Within n a → Within n b → AllWithin n 2 (a ∷ b ∷ [])
-within_two {n} a b u v = record { at = at }
-  where
-    at : (i : ℕ) → i < 2 → Within n (get_or (a ∷ b ∷ []) i [])
-    at zero h = u
-    at (suc zero) h = v
-    at (suc (suc i)) h = absurd (omega arith)
+pub width_of : {n : ℕ} → 1 ≤ n → n ≤ 3 → Width (4 * n)
+width_of {n = zero} h k = absurd (omega arith)
+width_of {n = suc zero} h k = inl refl
+width_of {n = suc (suc zero)} h k = inr (inl refl)
+width_of {n = suc (suc (suc zero))} h k = inr (inr refl)
+width_of {n = suc (suc (suc (suc n)))} h k = absurd (omega arith)
 
-pub within_three : {n : ℕ} (a b c : List ℕ) → Within n a → Within n b → Within n c → AllWithin n 3 (a ∷ b ∷ c ∷ [])
-within_three {n} a b c u v w = record { at = at }
-  where
-    at : (i : ℕ) → i < 3 → Within n (get_or (a ∷ b ∷ c ∷ []) i [])
-    at zero h = u
-    at (suc zero) h = v
-    at (suc (suc zero)) h = w
-    at (suc (suc (suc i))) h = absurd (omega arith)
+pub within_more : {m n : ℕ} {b : List ℕ} → m ≤ n → Within m b → Within n b
+within_more h w = record { at0 = omega (arith, w.at0); at1 = omega (arith, w.at1); at2 = omega (arith, w.at2); at3 = omega (arith, w.at3) }
+
+pub plus_within : {m n : ℕ} {a b : List ℕ} → Within m a → Within n b → Within (m + n) (plus a b)
+plus_within u v = record {
+  at0 = omega (arith, u.at0, v.at0);
+  at1 = omega (arith, u.at1, v.at1);
+  at2 = omega (arith, u.at2, v.at2);
+  at3 = omega (arith, u.at3, v.at3);
+}
+
+-- the sum of i blocks
+pub total_within : (m : ℕ) {n : ℕ} (bs : List (List ℕ)) → AllWithin m n bs → (i : ℕ) → i ≤ n → Within (m * i) (total i bs)
+total_within m bs w zero h = record { at0 = omega arith; at1 = omega arith; at2 = omega arith; at3 = omega arith }
+total_within m bs w (suc i) h =
+    let n : m * i + m ≡ m * suc i = omega (arith, mul-suc m i) in
+    subst (λ (k : ℕ). Within k (total (suc i) bs)) n (plus_within (total_within m bs w i (omega arith)) (w.at i (omega arith)))
 
 module _ (p : ℕ) where
   within_words : {n : ℕ} (b : List ℕ) → n < p → Within n b → residues p (four b) ≡ four b
@@ -49,74 +59,82 @@ module _ (p : ℕ) where
   unfolding residues add_lists add
   plus_residues x y = refl
 
-  total : (x y z : List ℕ) {q : List ℕ} → q ≡ plus (plus x y) z → residues p (four q) ≡ sum_blocks p (four x ∷ four y ∷ four z ∷ [])
-  unfolding residues sum_blocks add_lists add
-  total x y z e =
-      ap (λ (b : List ℕ). residues p (four b)) e
-      ∙ four_eq (word (get_or x 0 0) (get_or y 0 0) (get_or z 0 0)) (word (get_or x 1 0) (get_or y 1 0) (get_or z 1 0))
-      (word (get_or x 2 0) (get_or y 2 0) (get_or z 2 0)) (word (get_or x 3 0) (get_or y 3 0) (get_or z 3 0))
+  -- to add a sum of zeros and S is to add S
+  from_none : (x S : List ℕ) → add_lists p (four x) (add_lists p (0 ∷ 0 ∷ 0 ∷ 0 ∷ []) S) ≡ add_lists p (four x) S
+  unfolding add_lists add
+  from_none x S =
+      four_eq (word (get_or x 0 0) (get_or S 0 0)) (word (get_or x 1 0) (get_or (drop 1 S) 0 0)) (word (get_or x 2 0) (get_or (drop 1 (drop 1 S)) 0 0))
+      (word (get_or x 3 0) (get_or (drop 1 (drop 1 (drop 1 S))) 0 0))
     where
-      word : (a b c : ℕ) → (a + b + c) % p ≡ (a + (b + (c + 0) % p) % p) % p
-      word a b c =
-          let e : a + b + c ≡ a + (b + (c + 0)) = omega arith in
-          ap (λ (n : ℕ). n % p) e
-          ∙ sym (add≈ (refl≈ {a = a}) (mod≈ (b + (c + 0)))).same
-          ∙ ap (λ (n : ℕ). (a + n) % p) (sym (add≈ (refl≈ {a = b}) (mod≈ (c + 0))).same)
+      word : (a b : ℕ) → (a + (0 + b) % p) % p ≡ (a + b) % p
+      word a b = (add≈ (refl≈ {a = a}) (mod≈ (0 + b))).same ∙ ap (λ (n : ℕ). (a + n) % p) (zero-add b)
 
-  -- a block r with the sum q of all added, which stands for the words s
-  block_summed : {n : ℕ} (x q r : List ℕ) {s : List ℕ} → n < p → residues p (four q) ≡ s → r ≡ plus x q → Within n r → four r ≡ add_lists p (four x) s
-  block_summed x q r h t e w =
-      sym (within_words r h w) ∙ ap (λ (b : List ℕ). residues p (four b)) e ∙ plus_residues x q
-      ∙ sym (add_lists_right p (four x) (four q)) ∙ ap (add_lists p (four x)) t
+  -- one block more
+  one_more : (q x S : List ℕ) → add_lists p (four q) (add_lists p (four x) S) ≡ add_lists p (four (plus q x)) S
+  unfolding add_lists add
+  one_more q x S =
+      four_eq (word (get_or q 0 0) (get_or x 0 0) (get_or S 0 0)) (word (get_or q 1 0) (get_or x 1 0) (get_or (drop 1 S) 0 0))
+      (word (get_or q 2 0) (get_or x 2 0) (get_or (drop 1 (drop 1 S)) 0 0)) (word (get_or q 3 0) (get_or x 3 0) (get_or (drop 1 (drop 1 (drop 1 S))) 0 0))
+    where
+      word : (a b c : ℕ) → (a + (b + c) % p) % p ≡ (a + b + c) % p
+      word a b c = (add≈ (refl≈ {a = a}) (mod≈ (b + c))).same ∙ ap (λ (n : ℕ). n % p) (sym (add_assoc a b c))
 
-  pub sums_three : {n : ℕ} (x y z q a b c : List ℕ) → n < p → q ≡ plus (plus x y) z → a ≡ plus x q → Within n a → b ≡ plus y q → Within n b → c ≡ plus z q → Within n c
-      → four a ++ (four b ++ (four c ++ [])) ≡ sums p (four x ++ (four y ++ (four z ++ [])))
-  unfolding sums blocks join_blocks mixed add_to_each
-  sums_three x y z q a b c h e f u g v i w =
-      let t : residues p (four q) ≡ sum_blocks p (four x ∷ four y ∷ four z ∷ []) = total x y z e in
-      append_eq (block_summed x q a h t f u) (append_eq (block_summed y q b h t g v) (append_eq (block_summed z q c h t i w) refl))
+  -- the sum of i blocks and of m after them
+  total_from : (bs : List (List ℕ)) (m i : ℕ) → add_lists p (four (total i bs)) (sum_blocks p (blocks (flat_from i m bs))) ≡ residues p (four (total (i + m) bs))
+  unfolding sum_blocks blocks add_lists residues add
+  total_from bs zero i = add_zeros (total i bs) ∙ ap (λ (k : ℕ). residues p (four (total k bs))) (sym (add-zero i))
+    where
+      add_zeros : (q : List ℕ) → add_lists p (four q) (0 ∷ 0 ∷ 0 ∷ 0 ∷ []) ≡ residues p (four q)
+      add_zeros q = cc (add-zero (get_or q 0 0), add-zero (get_or q 1 0), add-zero (get_or q 2 0), add-zero (get_or q 3 0))
+  total_from bs (suc m) i =
+      let n : suc i + m ≡ i + suc m = omega arith in
+      one_more (total i bs) (get_or bs i []) (sum_blocks p (blocks (flat_from (suc i) m bs))) ∙ total_from bs m (suc i) ∙ ap (λ (k : ℕ). residues p (four (total k bs))) n
 
-  -- an empty block adds nothing
-  two_of_three : (x y : List ℕ) → sum_blocks p (four x ∷ four y ∷ (0 ∷ 0 ∷ 0 ∷ 0 ∷ []) ∷ []) ≡ sum_blocks p (four x ∷ four y ∷ [])
-  unfolding sum_blocks add_lists add
-  two_of_three x y = ap (λ (s : List ℕ). add_lists p (four x) (add_lists p (four y) s)) (four_eq (zero-mod p) (zero-mod p) (zero-mod p) (zero-mod p))
+  -- a block r with the sum of all added
+  block_summed : {m : ℕ} (n : ℕ) (bs : List (List ℕ)) (x r : List ℕ) → m < p → r ≡ plus x (total n bs) → Within m r
+      → four r ≡ add_lists p (four x) (sum_blocks p (blocks (flat n bs)))
+  block_summed n bs x r h e w =
+      let S = sum_blocks p (blocks (flat n bs)) in
+      let z : 0 + n ≡ n = zero-add n in
+      sym (within_words r h w) ∙ ap (λ (b : List ℕ). residues p (four b)) e ∙ plus_residues x (total n bs)
+      ∙ sym (add_lists_right p (four x) (four (total n bs)))
+      ∙ ap (λ (k : ℕ). add_lists p (four x) (residues p (four (total k bs)))) (sym z)
+      ∙ ap (add_lists p (four x)) (sym (total_from bs n 0)) ∙ from_none x S
 
-  pub sums_two : {n : ℕ} (x y q a b : List ℕ) → n < p → q ≡ plus (plus x y) (0 ∷ 0 ∷ 0 ∷ 0 ∷ []) → a ≡ plus x q → Within n a → b ≡ plus y q → Within n b
-      → four a ++ (four b ++ []) ≡ sums p (four x ++ (four y ++ []))
-  unfolding sums blocks join_blocks mixed add_to_each
-  sums_two x y q a b h e f u g v =
-      let t : residues p (four q) ≡ sum_blocks p (four x ∷ four y ∷ []) = total x y (0 ∷ 0 ∷ 0 ∷ 0 ∷ []) e ∙ two_of_three x y in
-      append_eq (block_summed x q a h t f u) (append_eq (block_summed y q b h t g v) refl)
+  pub sums_all : {m : ℕ} (n : ℕ) (xs rs : List (List ℕ)) → m < p → n ≢ 1 → ((k : ℕ) → k < n → get_or rs k [] ≡ plus (get_or xs k []) (total n xs))
+      → AllWithin m n rs → flat n rs ≡ sums p (flat n xs)
+  unfolding sums mixed blocks join_blocks add_to_each
+  sums_all zero xs rs h ne e w = refl
+  sums_all (suc zero) xs rs h ne e w = absurd (ne refl)
+  sums_all (suc (suc n)) xs rs h ne e w =
+      let S = sum_blocks p (blocks (flat (suc (suc n)) xs)) in
+      flat_by (suc (suc n)) (λ i m. flat_from i m rs ≡ join_blocks (add_to_each p S (blocks (flat_from i m xs)))) (λ i. refl)
+      (λ i m b f. append_eq (block_summed (suc (suc n)) xs (get_or xs i []) (get_or rs i []) h (e i b) (w.at i b)) f)
+
+  pub sums_alone : (xs : List (List ℕ)) → sums p (flat 1 xs) ≡ flat 1 xs
+  sums_alone xs = block_alone p (flat 1 xs) refl
 
   -- ---- M4 in each block
 
-  m4_residues : (x : List ℕ) → residues p (exact_m4 x) ≡ m4 p x
+  m4_block : {m : ℕ} (x r : List ℕ) → m < p → r ≡ exact_m4 (four x) → Within m r → four r ≡ m4 p (four x)
   unfolding residues exact_m4 m4 rows_times m4_rows
-  m4_residues x = refl
+  m4_block x r h e w = sym (within_words r h w) ∙ ap (λ (b : List ℕ). residues p (four b)) e
 
-  pub m4_alone : {n : ℕ} (x r : List ℕ) → n < p → r ≡ exact_m4 (four x) → Within n r → four r ≡ m4_blocks p (four x)
-  unfolding exact_m4 m4_rows m4_blocks join_blocks blocks m4 rows_times
-  m4_alone x r h e w = sym (within_words r h w) ∙ ap (λ (b : List ℕ). residues p (four b)) e ∙ m4_residues (four x)
-
-  -- one block after another
-  pub m4_none : [] ≡ m4_blocks p []
+  pub m4_all : {m : ℕ} (n : ℕ) (xs rs : List (List ℕ)) → m < p → ((k : ℕ) → k < n → get_or rs k [] ≡ exact_m4 (four (get_or xs k [])))
+      → AllWithin m n rs → flat n rs ≡ m4_blocks p (flat n xs)
   unfolding m4_blocks join_blocks blocks
-  m4_none = refl
+  m4_all n xs rs h e w =
+      flat_by n (λ i m. flat_from i m rs ≡ m4_blocks p (flat_from i m xs)) (λ i. refl)
+      (λ i m b f. append_eq (m4_block (get_or xs i []) (get_or rs i []) h (e i b) (w.at i b)) f)
 
-  pub m4_more : (x r xs rs : List ℕ) → four r ≡ m4_blocks p (four x) → rs ≡ m4_blocks p xs → four r ++ rs ≡ m4_blocks p (four x ++ xs)
-  unfolding m4_blocks join_blocks blocks m4 rows_times m4_rows
-  m4_more x r xs rs e f = append_eq e f
+  -- ---- the layer, of the high halves and of the low ones
 
-  -- ---- the layer, of the high halves hs and the low halves ls
-
-  module _ (pos : 0 < p) {t : ℕ} (w : Width t) (hs ls xs rs : List ℕ) (n : length xs ≡ t) (u : Parts p (blocks hs) (blocks ls) (blocks xs)) where
-    by_halves : {h l : List ℕ} → h ≡ external p hs → l ≡ external p ls → residues p rs ≡ residues p (joins h l) → residues p rs ≡ external p xs
-    by_halves e f g = external_joined p pos w hs ls xs rs n u (g ∙ ap₂ (λ (h l : List ℕ). residues p (joins h l)) e f)
-
-    pub external_code : {a b h l : List ℕ} → a ≡ sums p hs → h ≡ m4_blocks p a → b ≡ sums p ls → l ≡ m4_blocks p b
-        → residues p rs ≡ residues p (joins h l) → residues p rs ≡ external p xs
-    external_code e f g i = by_halves (f ∙ ap (m4_blocks p) e ∙ sums_then_m4_lem p hs) (i ∙ ap (m4_blocks p) g ∙ sums_then_m4_lem p ls)
-
-    pub external_alone : {h l : List ℕ} → length hs ≡ 4 → h ≡ m4_blocks p hs → length ls ≡ 4 → l ≡ m4_blocks p ls
-        → residues p rs ≡ residues p (joins h l) → residues p rs ≡ external p xs
-    external_alone e f g i = external_code (sym (block_alone p hs e)) f (sym (block_alone p ls g)) i
+  pub external_all : 0 < p → {n : ℕ} → 1 ≤ n → n ≤ 3 → (xs rs : List (List ℕ)) {a b h l hs ls : List ℕ}
+      → hs ≡ map (λ n. n / half) (flat n xs) → a ≡ sums p hs → h ≡ m4_blocks p a
+      → ls ≡ map (λ n. n % half) (flat n xs) → b ≡ sums p ls → l ≡ m4_blocks p b
+      → residues p (flat n rs) ≡ residues p (joins h l) → residues p (flat n rs) ≡ external p (flat n xs)
+  external_all pos {n} some few xs rs {a} {b} {h} {l} {hs} {ls} d e f g i j k =
+      let high : h ≡ external p (map (λ n. n / half) (flat n xs)) = f ∙ ap (m4_blocks p) e ∙ sums_then_m4_lem p hs ∙ ap (external p) d in
+      let low : l ≡ external p (map (λ n. n % half) (flat n xs)) = j ∙ ap (m4_blocks p) i ∙ sums_then_m4_lem p ls ∙ ap (external p) g in
+      external_joined p pos (width_of some few) (map (λ n. n / half) (flat n xs)) (map (λ n. n % half) (flat n xs)) (flat n xs) (flat n rs)
+      (flat_length n xs) (parts_of p (flat n xs)) (k ∙ ap₂ (λ (h l : List ℕ). residues p (joins h l)) high low)

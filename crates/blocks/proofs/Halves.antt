@@ -1,11 +1,11 @@
 -- M_E of numbers from that of their halves: the layer is linear, so that it may be made of the high halves and of the low ones, and joined. For
 -- any number of blocks.
-use mathlib.Core.Path.{◌≡◌, refl, sym, subst, ◌∙◌}
-use mathlib.Core.List.{List, [], ◌∷◌, ◌++◌, map}
+use mathlib.Core.Path.{◌≡◌, refl, sym, ◌∙◌}
+use mathlib.Core.List.{List, [], ◌∷◌, map}
 use Prim.Native.Nat.{ℕ, ◌+◌, ◌*◌, ◌/◌, ◌%◌, ◌<◌}
 use native.Mathlib.Nat.{div-add-mod}
 use native.Mathlib.Omega.{arith}
-use lib.ListN.{length, get_or, drop}
+use lib.ListN.{length, get_or}
 use Rattle.modular.specs.Arithmetic.{add}
 use Rattle.modular.specs.Congruence.{◌≈⟨◌⟩◌}
 use Rattle.modular.proofs.Congruence.{refl≈, eq≈, sym≈, trans≈, mod≈, add≈, mul≈}
@@ -15,9 +15,10 @@ use Rattle.poseidon2.specs.Residues.{residues}
 use Rattle.poseidon2.specs.Statements.{Width}
 use Rattle.poseidon2.proofs.Words.{cons_eq, state_words}
 use Rattle.poseidon2.proofs.External.{external_state}
-use Rattle.blocks.specs.Blocks.{four}
-use Rattle.blocks.specs.Halves.{half, lows, highs, exact_m4, joined}
+use Rattle.blocks.specs.Blocks.{four, flat_from, flat}
+use Rattle.blocks.specs.Halves.{half, exact_m4, joins}
 use Rattle.blocks.proofs.Lists.{four_eq, append_eq}
+use Rattle.blocks.proofs.Each.{flat_by}
 
 -- ---- M4 as code adds it up
 
@@ -62,36 +63,26 @@ pub data Parts (p : ℕ) : List (List ℕ) → List (List ℕ) → List (List �
   no_part : Parts p [] [] []
   and_part : {h l x : List ℕ} {hs ls xs : List (List ℕ)} → Part p h l x → Parts p hs ls xs → Parts p (h ∷ hs) (l ∷ ls) (x ∷ xs)
 
--- the numbers of a list, from those of two
-abbrev pub joins : List ℕ → List ℕ → List ℕ
-joins [] ls = []
-joins (h ∷ hs) ls = (h * half + get_or ls 0 0) ∷ joins hs (drop 1 ls)
-
 module _ (p : ℕ) where
-  split : (x : List ℕ) → Part p (highs x) (lows x) (four x)
-  split x = part (word (get_or x 0 0)) (word (get_or x 1 0)) (word (get_or x 2 0)) (word (get_or x 3 0))
-    where
-      word : (n : ℕ) → Is p (n / half) (n % half) n
-      word n = let e : n ≡ n / half * half + n % half = omega (arith, div-add-mod n half) in record { is = eq≈ e }
+  word_part : (n : ℕ) → Is p (n / half) (n % half) n
+  word_part n = let e : n ≡ n / half * half + n % half = omega (arith, div-add-mod n half) in record { is = eq≈ e }
 
-  -- the halves of one block after another, as code makes them
-  pub parts_none : Parts p (blocks []) (blocks []) (blocks [])
+  -- the halves of a list's numbers
+  pub parts_of : (xs : List ℕ) → Parts p (blocks (map (λ n. n / half) xs)) (blocks (map (λ n. n % half) xs)) (blocks xs)
   unfolding blocks
-  parts_none = no_part
+  parts_of [] = no_part
+  parts_of (a ∷ []) = no_part
+  parts_of (a ∷ b ∷ []) = no_part
+  parts_of (a ∷ b ∷ c ∷ []) = no_part
+  parts_of (a ∷ b ∷ c ∷ d ∷ xs) = and_part (part (word_part a) (word_part b) (word_part c) (word_part d)) (parts_of xs)
 
-  pub parts_more : (x h l hs ls xs : List ℕ) → h ≡ highs x → l ≡ lows x → Parts p (blocks hs) (blocks ls) (blocks xs)
-      → Parts p (blocks (four h ++ hs)) (blocks (four l ++ ls)) (blocks (four x ++ xs))
-  unfolding blocks
-  parts_more x h l hs ls xs e f u = and_part (subst (λ (b : List ℕ). Part p (four b) (four l) (four x)) (sym e) (subst (λ (b : List ℕ). Part p (highs x) (four b) (four x)) (sym f) (split x))) u
-
-  -- and joined again
-  pub joins_none : residues p [] ≡ residues p (joins [] [])
-  joins_none = refl
-
-  pub joins_more : (h l r hs ls rs : List ℕ) → residues p (four r) ≡ residues p (joined h l) → residues p rs ≡ residues p (joins hs ls)
-      → residues p (four r ++ rs) ≡ residues p (joins (four h ++ hs) (four l ++ ls))
+  -- and joined again, block by block
+  pub joins_all : (n : ℕ) (hs ls rs : List (List ℕ))
+      → ((k : ℕ) → k < n → residues p (four (get_or rs k [])) ≡ residues p (joins (four (get_or hs k [])) (four (get_or ls k []))))
+      → residues p (flat n rs) ≡ residues p (joins (flat n hs) (flat n ls))
   unfolding residues
-  joins_more h l r hs ls rs e f = append_eq e f
+  joins_all n hs ls rs e =
+      flat_by n (λ i m. residues p (flat_from i m rs) ≡ residues p (joins (flat_from i m hs) (flat_from i m ls))) (λ i. refl) (λ i m b f. append_eq (e i b) f)
 
   -- residues may stand for the halves and for the number
   is_residue : (h l x : ℕ) → x ≈⟨ p ⟩ h * half + l → Is p (h % p) (l % p) (x % p)

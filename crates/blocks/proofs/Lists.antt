@@ -1,8 +1,8 @@
 -- Equal blocks, the words of a list's first places, and the layers' parts block by block.
 use mathlib.Core.Path.{◌≡◌, refl, sym, ap, ap₂, subst, ◌∙◌}
 use mathlib.Core.List.{List, [], ◌∷◌, ◌++◌}
-use Prim.Native.Nat.{ℕ, suc, ◌+◌, ◌%◌, ◌^◌, ◌<◌, ◌≤◌}
-use native.Mathlib.Nat.{mod-mod}
+use Prim.Native.Nat.{ℕ, suc, ◌+◌, ◌*◌, ◌%◌, ◌^◌, ◌<◌, ◌≤◌}
+use native.Mathlib.Nat.{add-zero, mod-mod}
 use native.Mathlib.Omega.{arith}
 use lib.ListN.{length, get_or, take, drop}
 use lib.Seq.{get_or-take, take-take, drop-drop}
@@ -15,7 +15,8 @@ use Rattle.poseidon2.specs.Residues.{residues}
 use Rattle.poseidon2.specs.Statements.{Words}
 use Rattle.poseidon2.proofs.Words.{cons_eq, words_take}
 use Rattle.poseidon2.proofs.Places.{add_at_lem}
-use Rattle.blocks.specs.Blocks.{four}
+use Rattle.blocks.specs.Blocks.{four, flat_from, flat}
+use Rattle.blocks.proofs.Each.{flat_by}
 
 pub four_eq : {a b c d e f g h : ℕ} → a ≡ e → b ≡ f → c ≡ g → d ≡ h → a ∷ b ∷ c ∷ d ∷ [] ≡ e ∷ f ∷ g ∷ h ∷ []
 four_eq i j k l = cc
@@ -69,7 +70,7 @@ add_lists-append p (x ∷ xs) ys cs =
     (ap (λ (ds : List ℕ). add_lists p xs (drop 1 cs) ++ add_lists p ys ds) (ap (λ (m : ℕ). drop m cs) n ∙ sym (drop-drop (length xs) 1 cs))
     ∙ add_lists-append p xs ys (drop 1 cs))
 
-pub raised_more : (p : ℕ) (x xs C : List ℕ) (k : ℕ)
+raised_more : (p : ℕ) (x xs C : List ℕ) (k : ℕ)
     → seventh_powers p (add_constants p (drop k C) (four x)) ++ seventh_powers p (add_constants p (drop (k + 4) C) xs)
     ≡ seventh_powers p (add_constants p (drop k C) (four x ++ xs))
 unfolding seventh_powers add_constants add_lists
@@ -77,19 +78,14 @@ raised_more p x xs C k =
     ap (λ (cs : List ℕ). seventh_powers p (add_lists p (four x) (drop k C)) ++ seventh_powers p (add_lists p xs cs)) (sym (drop-drop 4 k C))
     ∙ ap (seventh_powers p) (add_lists-append p (four x) xs (drop k C))
 
-pub raised_two : (p : ℕ) (x y r0 r1 C : List ℕ) (k : ℕ)
-    → residues p (four r0) ≡ seventh_powers p (add_constants p (drop k C) (four x))
-    → residues p (four r1) ≡ seventh_powers p (add_constants p (drop (k + 4) C) (four y))
-    → residues p (four r0 ++ (four r1 ++ [])) ≡ seventh_powers p (add_constants p (drop k C) (four x ++ (four y ++ [])))
-unfolding residues
-raised_two p x y r0 r1 C k e f = append_eq e f ∙ raised_more p x (four y) C k
-
-pub raised_three : (p : ℕ) (x y z r0 r1 r2 C : List ℕ) (k : ℕ)
-    → residues p (four r0) ≡ seventh_powers p (add_constants p (drop k C) (four x))
-    → residues p (four r1) ≡ seventh_powers p (add_constants p (drop (k + 4) C) (four y))
-    → residues p (four r2) ≡ seventh_powers p (add_constants p (drop (k + 8) C) (four z))
-    → residues p (four r0 ++ (four r1 ++ (four r2 ++ []))) ≡ seventh_powers p (add_constants p (drop k C) (four x ++ (four y ++ (four z ++ []))))
-unfolding residues
-raised_three p x y z r0 r1 r2 C k e f g =
-    let n : k + 8 ≡ k + 4 + 4 = omega arith in
-    append_eq e (raised_two p y z r1 r2 C (k + 4) f (g ∙ ap (λ (m : ℕ). seventh_powers p (add_constants p (drop m C) (four z))) n)) ∙ raised_more p x (four y ++ four z) C k
+pub raised_all : (p n : ℕ) (xs rs : List (List ℕ)) (C : List ℕ) (at : ℕ)
+    → ((k : ℕ) → k < n → residues p (four (get_or rs k [])) ≡ seventh_powers p (add_constants p (drop (at + 4 * k) C) (four (get_or xs k []))))
+    → residues p (flat n rs) ≡ seventh_powers p (add_constants p (drop at C) (flat n xs))
+unfolding residues seventh_powers add_constants add_lists
+raised_all p n xs rs C at e =
+    flat_by n (λ i m. residues p (flat_from i m rs) ≡ seventh_powers p (add_constants p (drop (at + 4 * i) C) (flat_from i m xs))) (λ i. refl)
+    (λ i m b f.
+    let k : at + 4 * suc i ≡ at + 4 * i + 4 = omega arith in
+    append_eq (e i b) (f ∙ ap (λ (j : ℕ). seventh_powers p (add_constants p (drop j C) (flat_from (suc i) m xs))) k)
+    ∙ raised_more p (get_or xs i []) (flat_from (suc i) m xs) C (at + 4 * i))
+    ∙ ap (λ (j : ℕ). seventh_powers p (add_constants p (drop j C) (flat n xs))) (add-zero at)

@@ -1,7 +1,7 @@
 -- A partial round as code makes it, for any width.
 use mathlib.Core.Path.{◌≡◌, refl, sym, ap, ◌∙◌}
 use mathlib.Core.List.{List, [], ◌∷◌, ◌++◌}
-use Prim.Native.Nat.{ℕ, suc, ◌+◌, ◌*◌, ◌%◌, ◌^◌}
+use Prim.Native.Nat.{ℕ, zero, suc, ◌+◌, ◌*◌, ◌%◌, ◌^◌, ◌<◌, ◌≤◌}
 use native.Mathlib.Nat.{add-zero, mod-mod}
 use native.Mathlib.Omega.{arith}
 use lib.ListN.{length, get_or, take, drop}
@@ -14,12 +14,33 @@ use Rattle.poseidon2.specs.Rounds.{add_constants, raise_first, partial_round}
 use Rattle.poseidon2.specs.Residues.{residues}
 use Rattle.poseidon2.proofs.Words.{cons_eq}
 use Rattle.poseidon2.proofs.Places.{plus_multiples_at, plus_multiples-at, internal_at}
-use Rattle.blocks.specs.Blocks.{four}
-use Rattle.blocks.proofs.Lists.{four_eq}
+use Rattle.blocks.specs.Blocks.{four, flat_from, flat}
+use Rattle.blocks.proofs.Each.{flat_length}
+use Rattle.blocks.proofs.Lists.{four_eq, append_eq}
 
 first_law : (d w s c : ℕ) → s + c + (d + 1) * w ≡ w + s + d * w + c
 unfolding exact?
 first_law d w s c = ringℕ (d ∷ w ∷ s ∷ c ∷ []) (var 2 ⊕ var 3 ⊕ (var 0 ⊕ num 1) ⊗ var 1) (var 1 ⊕ var 2 ⊕ var 0 ⊗ var 1 ⊕ var 3) tt
+
+-- the blocks behind word 0's, in a state of n
+blocks_behind : (p q : ℕ) (D : List ℕ) (n : ℕ) (bs rs : List (List ℕ))
+    → ((k : ℕ) → 0 < k → k < n → residues p (four (get_or rs k [])) ≡ plus_multiples p q (drop (4 * k) D) (four (get_or bs k [])))
+    → (m i : ℕ) → 0 < i → i + m ≡ n → residues p (flat_from i m rs) ≡ plus_multiples_at p q D (4 * i) (flat_from i m bs)
+unfolding residues
+blocks_behind p q D n bs rs h zero i s e = refl
+blocks_behind p q D n bs rs h (suc m) i s e =
+    let k : 4 * suc i ≡ suc (suc (suc (suc (4 * i)))) = omega arith in
+    append_eq (h i s (omega arith) ∙ plus_multiples-at p q D (4 * i) (four (get_or bs i [])))
+    (blocks_behind p q D n bs rs h m (suc i) (omega arith) (omega arith) ∙ ap (λ (j : ℕ). plus_multiples_at p q D j (flat_from (suc i) m bs)) k)
+
+pub multiples_all : (p q : ℕ) (D : List ℕ) (n : ℕ) (bs rs : List (List ℕ)) (first : List ℕ) → 1 ≤ n → get_or rs 0 [] ≡ first
+    → ((k : ℕ) → 0 < k → k < n → residues p (four (get_or rs k [])) ≡ plus_multiples p q (drop (4 * k) D) (four (get_or bs k [])))
+    → residues p (flat n rs) ≡ residues p (four first) ++ plus_multiples p q (drop 4 D) (drop 4 (flat n bs))
+unfolding residues
+multiples_all p q D zero bs rs first n f h = absurd (omega arith)
+multiples_all p q D (suc m) bs rs first n f h =
+    append_eq (ap (λ (x : List ℕ). residues p (four x)) f)
+    (blocks_behind p q D (suc m) bs rs h m 1 (omega arith) (omega arith) ∙ sym (plus_multiples-at p q D 4 (flat_from 1 m bs)))
 
 module _ {p : ℕ} where
   -- nothing is added to the words after word 0
@@ -63,8 +84,8 @@ module _ {p : ℕ} where
       word : {y : ℕ} (a i j : ℕ) → i ≡ j → y ≈⟨ p ⟩ s + get_or D i 0 * a → y % p ≡ (s + get_or D j 0 * a) % p
       word a i j n q = q.same ∙ ap (λ (m : ℕ). (s + get_or D m 0 * a) % p) n
 
-  -- word 0's block, and the blocks after it
-  pub partial_blocks : {w r q t e y0 y1 y2 y3 : ℕ} (c : ℕ) (D a xs rs : List ℕ)
+  -- word 0's block
+  partial_blocks : {w r q t e y0 y1 y2 y3 : ℕ} (c : ℕ) (D a xs rs : List ℕ)
       → w ≈⟨ p ⟩ get_or a 0 0 ^ 7 → r ≡ sum (get_or a 1 0 ∷ get_or a 2 0 ∷ get_or a 3 0 ∷ xs) % p → t ≈⟨ p ⟩ r + c → q ≈⟨ p ⟩ w + r → e ≈⟨ p ⟩ get_or D 0 0 + 1
       → y0 ≈⟨ p ⟩ t + e * w → y1 ≈⟨ p ⟩ q + get_or D 1 0 * get_or a 1 0 → y2 ≈⟨ p ⟩ q + get_or D 2 0 * get_or a 2 0 → y3 ≈⟨ p ⟩ q + get_or D 3 0 * get_or a 3 0
       → rs ≡ plus_multiples_at p q D 4 xs
@@ -74,3 +95,18 @@ module _ {p : ℕ} where
       ap (λ (ys : List ℕ). y0 % p ∷ ys) (cons_eq h1.same (cons_eq h2.same (cons_eq h3.same f)))
       ∙ partial_code (get_or a 0 0) c D (get_or a 1 0 ∷ get_or a 2 0 ∷ get_or a 3 0 ∷ xs) hw hr ht hq he h0
       ∙ ap (λ (n : ℕ). add_constants p (c ∷ []) (partial_round p (take n D) 0 (four a ++ xs))) n
+
+  -- and the blocks behind it
+  pub partial_all : {w r q t e y0 y1 y2 y3 : ℕ} (c : ℕ) (D : List ℕ) (n : ℕ) (bs : List (List ℕ)) {rs : List ℕ} → 1 ≤ n
+      → w ≈⟨ p ⟩ get_or (get_or bs 0 []) 0 0 ^ 7 → r ≡ sum (drop 1 (flat n bs)) % p → t ≈⟨ p ⟩ r + c → q ≈⟨ p ⟩ w + r → e ≈⟨ p ⟩ get_or D 0 0 + 1
+      → y0 ≈⟨ p ⟩ t + e * w → y1 ≈⟨ p ⟩ q + get_or D 1 0 * get_or (get_or bs 0 []) 1 0
+      → y2 ≈⟨ p ⟩ q + get_or D 2 0 * get_or (get_or bs 0 []) 2 0 → y3 ≈⟨ p ⟩ q + get_or D 3 0 * get_or (get_or bs 0 []) 3 0
+      → rs ≡ residues p (y0 ∷ y1 ∷ y2 ∷ y3 ∷ []) ++ plus_multiples p q (drop 4 D) (drop 4 (flat n bs))
+      → rs ≡ add_constants p (c ∷ []) (partial_round p (take (4 * n) D) 0 (flat n bs))
+  unfolding residues
+  partial_all c D zero bs n hw hr ht hq he h0 h1 h2 h3 f = absurd (omega arith)
+  partial_all {q = q} c D (suc m) bs n hw hr ht hq he h0 h1 h2 h3 f =
+      let xs = flat_from 1 m bs in
+      let l : 4 + length xs ≡ 4 * suc m = omega (arith, flat_length (suc m) bs) in
+      f ∙ partial_blocks c D (get_or bs 0 []) xs (plus_multiples p q (drop 4 D) xs) hw hr ht hq he h0 h1 h2 h3 (plus_multiples-at p q D 4 xs)
+      ∙ ap (λ (n : ℕ). add_constants p (c ∷ []) (partial_round p (take n D) 0 (flat (suc m) bs))) l

@@ -2,7 +2,7 @@
 use mathlib.Core.Path.{◌≡◌, refl, sym, ap, ap₂, subst, ◌∙◌}
 use mathlib.Core.Logic.{◌≢◌, inl, inr}
 use mathlib.Core.List.{List, [], ◌++◌, append-nil}
-use Prim.Native.Nat.{ℕ, suc, ◌+◌, ◌*◌, ◌%◌, ◌≤◌}
+use Prim.Native.Nat.{ℕ, suc, ◌+◌, ◌*◌, ◌%◌, ◌<◌, ◌≤◌}
 use native.Mathlib.Nat.{add_comm, add-zero, zero-add}
 use native.Mathlib.Omega.{arith}
 use lib.ListN.{length, get_or, take, drop, set}
@@ -14,8 +14,10 @@ use Rattle.poseidon2.specs.Residues.{residues}
 use Rattle.poseidon2.specs.Rounds.{permute}
 use Rattle.poseidon2.specs.Compression.{compress}
 use Rattle.poseidon2.specs.Statements.{Width, Words}
+use Rattle.poseidon2.proofs.Words.{residues_length}
 use Rattle.poseidon2.proofs.Places.{add_at_lem, add_lists-take}
-use Rattle.blocks.specs.Blocks.{four}
+use Rattle.blocks.specs.Blocks.{four, flat_from, flat}
+use Rattle.blocks.proofs.Each.{flat_by, flat_length, block_at}
 use Rattle.blocks.proofs.Lists.{four_eq, append_eq, add_lists-append}
 
 pub sum-of_words : {p : ℕ} (x y : ℕ) {b s r : ℕ} → b ≡ x % p → s ≈⟨ p ⟩ y + b → r ≡ s % p → r ≡ add p (x % p) y
@@ -49,30 +51,22 @@ in_row : (p n : ℕ) (ys zs row : List ℕ) → length ys ≡ n → ys ≡ zs �
 in_row p n ys zs row l e =
     sym (add_lists-take p ys row) ∙ ap₂ (λ (m : ℕ) (ws : List ℕ). add_lists p ws (take m row)) l e
 
-pub added_one : (p : ℕ) (x r zs xs : List ℕ) (k : ℕ) → four r ≡ add_lists p (residues p (four x)) (drop k xs) → residues p (four x) ≡ zs
-    → four r ≡ add_lists p zs (take 4 (drop k xs))
-unfolding residues
-added_one p x r zs xs k e h = e ∙ in_row p 4 (residues p (four x)) zs (drop k xs) refl h
+-- block by block
+pub added_all : (p n : ℕ) (xs rs : List (List ℕ)) (ys : List ℕ) (at : ℕ)
+    → ((k : ℕ) → k < n → four (get_or rs k []) ≡ add_lists p (residues p (four (get_or xs k []))) (drop (at + 4 * k) ys))
+    → flat n rs ≡ add_lists p (residues p (flat n xs)) (drop at ys)
+unfolding residues add_lists
+added_all p n xs rs ys at e =
+    flat_by n (λ i m. flat_from i m rs ≡ add_lists p (residues p (flat_from i m xs)) (drop (at + 4 * i) ys)) (λ i. refl)
+    (λ i m b f.
+    let k : at + 4 * suc i ≡ at + 4 * i + 4 = omega arith in
+    append_eq (e i b) (f ∙ ap (λ (j : ℕ). add_lists p (residues p (flat_from (suc i) m xs)) (drop j ys)) k)
+    ∙ added_more p (get_or xs i []) (residues p (flat_from (suc i) m xs)) ys (at + 4 * i))
+    ∙ ap (λ (j : ℕ). add_lists p (residues p (flat n xs)) (drop j ys)) (add-zero at)
 
-pub added_two : (p : ℕ) (x y r0 r1 zs xs : List ℕ) (k : ℕ)
-    → four r0 ≡ add_lists p (residues p (four x)) (drop k xs) → four r1 ≡ add_lists p (residues p (four y)) (drop (k + 4) xs)
-    → residues p (four x ++ (four y ++ [])) ≡ zs
-    → four r0 ++ (four r1 ++ []) ≡ add_lists p zs (take 8 (drop k xs))
-unfolding residues
-added_two p x y r0 r1 zs xs k e f h =
-    append_eq e f ∙ added_more p x (residues p (four y)) xs k
-    ∙ in_row p 8 (residues p (four x) ++ residues p (four y)) zs (drop k xs) refl h
-
-pub added_three : (p : ℕ) (x y z r0 r1 r2 zs xs : List ℕ) (k : ℕ)
-    → four r0 ≡ add_lists p (residues p (four x)) (drop k xs) → four r1 ≡ add_lists p (residues p (four y)) (drop (k + 4) xs)
-    → four r2 ≡ add_lists p (residues p (four z)) (drop (k + 8) xs) → residues p (four x ++ (four y ++ (four z ++ []))) ≡ zs
-    → four r0 ++ (four r1 ++ (four r2 ++ [])) ≡ add_lists p zs (take 12 (drop k xs))
-unfolding residues
-added_three p x y z r0 r1 r2 zs xs k e f g h =
-    let n : k + 8 ≡ k + 4 + 4 = omega arith in
-    append_eq e (append_eq f (g ∙ ap (λ (m : ℕ). add_lists p (residues p (four z)) (drop m xs)) n) ∙ added_more p y (residues p (four z)) xs (k + 4))
-    ∙ added_more p x (residues p (four y) ++ residues p (four z)) xs k
-    ∙ in_row p 12 (residues p (four x) ++ (residues p (four y) ++ residues p (four z))) zs (drop k xs) refl h
+-- the words of a state and a row added
+pub added_row : (p n : ℕ) (bs : List (List ℕ)) (zs row : List ℕ) → residues p (flat n bs) ≡ zs → add_lists p (residues p (flat n bs)) row ≡ add_lists p zs (take (4 * n) row)
+added_row p n bs zs row e = in_row p (4 * n) (residues p (flat n bs)) zs row (residues_length p (flat n bs) ∙ flat_length n bs) e
 
 -- a slice that is written whole
 pub whole : (d s : List ℕ) (n : ℕ) → length d ≡ n → paste d 0 s n ≡ take n s
@@ -84,9 +78,9 @@ pub all_of : (n : ℕ) (xs : List ℕ) → length xs ≡ n → take n (drop 0 xs
 all_of n xs l = take_all n xs (omega (arith, l))
 
 -- the first words of a sum are the compression
-pub compress_code : (p n w half rp : ℕ) (D C xs ys : List ℕ) → n ≤ w → take w ys ≡ add_lists p (permute p half rp D C xs) xs → take n ys ≡ compress p n half rp D C xs
+pub compress_code : (p n half rp : ℕ) (D C xs ys : List ℕ) → ys ≡ add_lists p (permute p half rp D C xs) xs → take n ys ≡ compress p n half rp D C xs
 unfolding compress
-compress_code p n w half rp D C xs ys h e = sym (take-take n w ys h) ∙ ap (take n) e
+compress_code p n half rp D C xs ys e = ap (take n) e
 
 pub put_compress : (p n half rp to : ℕ) (d D C xs ys : List ℕ) → take n ys ≡ compress p n half rp D C xs → paste d to ys n ≡ paste d to (compress p n half rp D C xs) n
 unfolding compress
@@ -146,3 +140,15 @@ next_block d F b k e h g =
     let beyond : drop (k + 4) (paste d 0 F k) ≡ drop (0 + (k + 4)) d =
     sym (drop-drop 4 k (paste d 0 F k)) ∙ ap (drop 4) rest ∙ drop-drop 4 k d ∙ ap (λ (m : ℕ). drop m d) (sym (zero-add (k + 4))) in
     ap₂ (λ (ys zs : List ℕ). ys ++ zs) (append_eq front e ∙ sym (take-add k 4 F)) beyond
+
+-- block k of a state, behind those before it
+pub block_more : (n : ℕ) (bs : List (List ℕ)) (d : List ℕ) (k : ℕ) → k < n → length d ≡ 4 * n
+    → paste (paste d 0 (flat n bs) (4 * k)) (4 * k) (four (get_or bs k [])) 4 ≡ paste d 0 (flat n bs) (4 * (k + 1))
+block_more n bs d k h l =
+    let m : 4 * k + 4 ≡ 4 * (k + 1) = omega arith in
+    next_block d (flat n bs) (four (get_or bs k [])) (4 * k) (sym (block_at n bs k h)) (omega (arith, l)) (omega (arith, flat_length n bs))
+    ∙ ap (paste d 0 (flat n bs)) m
+
+-- and all of them
+pub state_written : (n : ℕ) (bs : List (List ℕ)) (d : List ℕ) → length d ≡ 4 * n → paste d 0 (flat n bs) (4 * n) ≡ flat n bs
+state_written n bs d l = whole d (flat n bs) (4 * n) l ∙ take_all (4 * n) (flat n bs) (omega (arith, flat_length n bs))

@@ -2,7 +2,7 @@
 use mathlib.Core.Path.{◌≡◌, refl, sym, ap, ap₂, ◌∙◌}
 use mathlib.Core.List.{List, [], ◌∷◌, ◌++◌}
 use Prim.Native.Nat.{ℕ, zero, suc, ◌+◌, ◌*◌, ◌-◌, ◌%◌, ◌<◌, ◌≤◌}
-use native.Mathlib.Nat.{add-zero, mul-add, mul-one, mul-zero, mod-mod}
+use native.Mathlib.Nat.{add-zero, mul-add, mul-one, mul-zero, mul-le-mul_left, mod-mod}
 use native.Mathlib.Numerals.{add-one}
 use native.Mathlib.Omega.{arith}
 use lib.ListN.{length, get_or, take, drop}
@@ -18,7 +18,8 @@ use Rattle.poseidon2.proofs.Internal.{internal_residues}
 use Rattle.poseidon2.proofs.Residues.{external_residues, full_round-residues, partial_round-residues}
 use Rattle.poseidon2.proofs.Places.{add_lists-take, full_rounds-at}
 use Rattle.poseidon2.proofs.Rounds.{permute_at_lem}
-use Rattle.blocks.specs.Blocks.{four}
+use Rattle.blocks.specs.Blocks.{four, flat_from, flat}
+use Rattle.blocks.proofs.Each.{flat_by}
 use Rattle.blocks.proofs.Lists.{append_eq}
 
 -- ---- full rounds
@@ -190,17 +191,35 @@ module _ (p : ℕ) where
       ∙ ap₂ (λ (m : ℕ) (ys : List ℕ). full_rounds p t m (drop k C) ys) n (eb ∙ ap (partial_rounds p (take t D) rp (drop (t * half) C)) ea)
       ∙ sym (permute_at_lem p t half rp D C xs lx)
 
+-- ---- where the rounds' constants stand, t for a full round
+
+pub turn_fits : (t i n : ℕ) → i < n → t * i + t ≤ t * n
+turn_fits t i n h =
+    let e : t * i + t ≡ t * (i + 1) = omega (arith, mul-add t i 1, mul-one t) in
+    rw e (mul-le-mul_left t (omega arith))
+
+pub twice : (t half : ℕ) → t * (2 * half) ≡ t * half + t * half
+twice t half = let e : 2 * half ≡ half + half = omega arith in rw e (mul-add t half half)
+
+pub one_less : (t half : ℕ) → 1 ≤ half → t + t * (half - 1) ≡ t * half
+one_less t half h =
+    let e : 1 + (half - 1) ≡ half = omega arith in
+    let f : t + t * (half - 1) ≡ t * (1 + (half - 1)) = omega (arith, mul-add t 1 (half - 1), mul-one t) in
+    f ∙ ap (λ (n : ℕ). t * n) e
+
 -- ---- loading
 
 -- four and n more
-pub more_from : (n k : ℕ) (xs : List ℕ) → take 4 (drop k xs) ++ take n (drop (k + 4) xs) ≡ take (4 + n) (drop k xs)
+more_from : (n k : ℕ) (xs : List ℕ) → take 4 (drop k xs) ++ take n (drop (k + 4) xs) ≡ take (4 + n) (drop k xs)
 more_from n k xs = ap (λ (ys : List ℕ). take 4 (drop k xs) ++ take n ys) (sym (drop-drop 4 k xs)) ∙ sym (take-add 4 n (drop k xs))
 
-pub two_from : (k : ℕ) (xs r0 r1 : List ℕ) → four r0 ≡ take 4 (drop k xs) → four r1 ≡ take 4 (drop (k + 4) xs) → four r0 ++ (four r1 ++ []) ≡ take 8 (drop k xs)
-two_from k xs r0 r1 e f = append_eq e f ∙ more_from 4 k xs
-
-pub three_from : (k : ℕ) (xs r0 r1 r2 : List ℕ) → four r0 ≡ take 4 (drop k xs) → four r1 ≡ take 4 (drop (k + 4) xs) → four r2 ≡ take 4 (drop (k + 8) xs)
-    → four r0 ++ (four r1 ++ (four r2 ++ [])) ≡ take 12 (drop k xs)
-three_from k xs r0 r1 r2 e f g =
-    let n : k + 8 ≡ k + 4 + 4 = omega arith in
-    append_eq e (two_from (k + 4) xs r1 r2 f (g ∙ ap (λ (m : ℕ). take 4 (drop m xs)) n)) ∙ more_from 8 k xs
+-- blocks one after another
+pub loaded_all : (n : ℕ) (xs : List ℕ) (rs : List (List ℕ)) (at : ℕ) → ((k : ℕ) → k < n → four (get_or rs k []) ≡ take 4 (drop (at + 4 * k) xs))
+    → flat n rs ≡ take (4 * n) (drop at xs)
+loaded_all n xs rs at e =
+    flat_by n (λ i m. flat_from i m rs ≡ take (4 * m) (drop (at + 4 * i) xs)) (λ i. refl)
+    (λ i m b f.
+    let k : at + 4 * suc i ≡ at + 4 * i + 4 = omega arith in
+    let l : 4 + 4 * m ≡ 4 * suc m = omega arith in
+    append_eq (e i b) (f ∙ ap (λ (j : ℕ). take (4 * m) (drop j xs)) k) ∙ more_from (4 * m) (at + 4 * i) xs ∙ ap (λ (j : ℕ). take j (drop (at + 4 * i) xs)) l)
+    ∙ ap (λ (j : ℕ). take (4 * n) (drop j xs)) (add-zero at)

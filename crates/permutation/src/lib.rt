@@ -1,10 +1,11 @@
-// Poseidon2's permutation and compression of the numbers of slices. The width is looked at once a permutation.
+// Poseidon2's permutation and compression of the numbers of slices. The width is looked at once a permutation: each public function calls one that
+// is made for B blocks, and so for 4 * B words.
 #![tactic(auto)]
 
 pub mod halves;
 mod rounds;
 
-ghost use Rattle.std.specs.Prelude.{◌≡◌, List, ℕ, ◌+◌, ◌*◌, ◌%◌, ◌≤◌, length, take, drop};
+ghost use Rattle.std.specs.Prelude.{◌≡◌, ◌+◌, ◌*◌, ◌%◌, ◌≤◌, length, take, drop};
 ghost use Rattle.std.proofs.Math.Seq.{paste};
 ghost use Rattle.modular.specs.Arithmetic.{add};
 ghost use Rattle.modular.specs.Goldilocks.{p};
@@ -18,7 +19,7 @@ ghost use Rattle.blocks.specs.Blocks.{four, flat};
 use field::lazy;
 
 // The words that a block stands for.
-fn words(x: [u64; 4]) -> [u64; 4]
+fn block_words(x: [u64; 4]) -> [u64; 4]
     ensures { four result ≡ residues p (four x) }
 {
     [
@@ -29,6 +30,17 @@ fn words(x: [u64; 4]) -> [u64; 4]
     ]
 }
 
+// The words that a state stands for.
+fn words<const B: usize>(s: [[u64; 4]; B]) -> [[u64; 4]; B]
+    ensures { flat B result ≡ residues p (flat B s.entry) }
+{
+    let mut words = s;
+    for i in 0..B {
+        words[i] = block_words(s[i]);
+    }
+    words
+}
+
 // The word of a sum of any two numbers.
 fn sum_word(x: u64, y: u64) -> u64
     ensures { result ≡ add p (x % p) y }
@@ -37,7 +49,7 @@ fn sum_word(x: u64, y: u64) -> u64
 }
 
 // A block and the numbers of the list from `at` on, added word by word.
-fn add_input(x: [u64; 4], list: &[u64], at: usize) -> [u64; 4]
+fn add_block(x: [u64; 4], list: &[u64], at: usize) -> [u64; 4]
     requires { at + 4 ≤ length list.now }
     ensures { four result ≡ add_lists p (residues p (four x)) (drop at list.now) }
 {
@@ -49,79 +61,25 @@ fn add_input(x: [u64; 4], list: &[u64], at: usize) -> [u64; 4]
     ]
 }
 
-// The permutation of the numbers from `from` on.
-fn permuted(
-    width: usize,
-    half: usize,
-    partial_rounds: usize,
-    diagonal: &[u64; 12],
-    constants: &[u64; 208],
-    list: &[u64],
-    from: usize,
-) -> [[u64; 4]; 3]
-    requires { (Width width) × (1 ≤ half) × (half ≤ 6) × (partial_rounds ≤ 64) × (Words p (take (width * (2 * half) + partial_rounds) constants.now)) × (from + width ≤ length list.now) }
-    ensures { take width (flat 3 result) ≡ permute p half partial_rounds diagonal.now constants.now (take width (drop from list.now)) }
+// A state and the numbers of the list from `at` on, added word by word.
+fn add_input<const B: usize>(s: [[u64; 4]; B], list: &[u64], at: usize) -> [[u64; 4]; B]
+    requires { at + 4 * B ≤ length list.now }
+    ensures { flat B result ≡ add_lists p (residues p (flat B s.entry)) (drop at list.now) }
 {
-    if width == 4 {
-        let r = rounds::permute4(half, partial_rounds, diagonal, constants, list, from);
-        return [words(r), [0, 0, 0, 0], [0, 0, 0, 0]];
+    let mut added = s;
+    for i in 0..B {
+        added[i] = add_block(s[i], list, at + 4 * i);
     }
-    if width == 8 {
-        let r = rounds::permute8(half, partial_rounds, diagonal, constants, list, from);
-        return [words(r[0]), words(r[1]), [0, 0, 0, 0]];
-    }
-    let r = rounds::permute12(half, partial_rounds, diagonal, constants, list, from);
-    [words(r[0]), words(r[1]), words(r[2])]
+    added
 }
 
-// The permutation of the numbers from `from` on, with them added.
-fn compressed(
-    width: usize,
-    half: usize,
-    partial_rounds: usize,
-    diagonal: &[u64; 12],
-    constants: &[u64; 208],
-    list: &[u64],
-    from: usize,
-) -> [[u64; 4]; 3]
-    requires { (Width width) × (1 ≤ half) × (half ≤ 6) × (partial_rounds ≤ 64) × (Words p (take (width * (2 * half) + partial_rounds) constants.now)) × (from + width ≤ length list.now) }
-    ensures { take width (flat 3 result) ≡ add_lists p (permute p half partial_rounds diagonal.now constants.now (take width (drop from list.now))) (take width (drop from list.now)) }
+// The first n words of a state, written from `at` on.
+fn write<const B: usize>(s: [[u64; 4]; B], n: usize, list: &mut [u64], at: usize)
+    requires { (n ≤ 4 * B) × (at + n ≤ length list.old) }
+    ensures { list.new ≡ paste list.old at (flat B s.entry) n }
 {
-    if width == 4 {
-        let r = rounds::permute4(half, partial_rounds, diagonal, constants, list, from);
-        return [add_input(r, list, from), [0, 0, 0, 0], [0, 0, 0, 0]];
-    }
-    if width == 8 {
-        let r = rounds::permute8(half, partial_rounds, diagonal, constants, list, from);
-        return [
-            add_input(r[0], list, from),
-            add_input(r[1], list, from + 4),
-            [0, 0, 0, 0],
-        ];
-    }
-    let r = rounds::permute12(half, partial_rounds, diagonal, constants, list, from);
-    [
-        add_input(r[0], list, from),
-        add_input(r[1], list, from + 4),
-        add_input(r[2], list, from + 8),
-    ]
-}
-
-// The first n words of three blocks, written from `at` on.
-fn write(s: [[u64; 4]; 3], n: usize, list: &mut [u64], at: usize)
-    requires { (n ≤ 12) × (at + n ≤ length list.old) }
-    ensures { list.new ≡ paste list.old at (flat 3 s) n }
-{
-    let a = s[0];
-    let b = s[1];
-    let c = s[2];
-    let words = [
-        a[0], a[1], a[2], a[3], b[0], b[1], b[2], b[3], c[0], c[1], c[2], c[3],
-    ];
-    let mut i: usize = 0;
-    while i < n {
-        list[at + i] = words[i];
-        i += 1;
+    for i in 0..n {
+        list[at + i] = s[i / 4][i % 4];
     }
 }
 
@@ -136,20 +94,77 @@ fn write_block(x: [u64; 4], list: &mut [u64], at: usize)
     list[at + 3] = x[3];
 }
 
-// The first n words of three blocks, written to a list of n. There is no loop: a state is written after every permutation.
-fn write_state(s: [[u64; 4]; 3], n: usize, list: &mut [u64])
-    requires { (Width n) × (length list.old ≡ n) }
-    ensures { list.new ≡ take n (flat 3 s) }
+// A state, written to a list of its length.
+fn write_state<const B: usize>(s: [[u64; 4]; B], list: &mut [u64])
+    requires { length list.old ≡ 4 * B }
+    ensures { list.new ≡ flat B s.entry }
 {
-    write_block(s[0], list, 0);
-    if n == 4 {
-        return;
+    for i in 0..B {
+        write_block(s[i], list, 4 * i);
     }
-    write_block(s[1], list, 4);
-    if n == 8 {
-        return;
-    }
-    write_block(s[2], list, 8);
+}
+
+fn permute_state<const B: usize>(
+    half: usize,
+    partial_rounds: usize,
+    diagonal: &[u64; 12],
+    constants: &[u64; 208],
+    state: &mut [u64],
+)
+    requires { (1 ≤ B) × (B ≤ 3) × (1 ≤ half) × (half ≤ 6) × (partial_rounds ≤ 64) × (Words p (take (4 * B * (2 * half) + partial_rounds) constants.now)) × (length state.old ≡ 4 * B) }
+    ensures { state.new ≡ permute p half partial_rounds diagonal.now constants.now state.old }
+{
+    let r = rounds::permute::<B>(half, partial_rounds, diagonal, constants, state, 0);
+    write_state(words(r), state);
+}
+
+// The permutation of the numbers from `from` on, with them added.
+fn compressed<const B: usize>(
+    half: usize,
+    partial_rounds: usize,
+    diagonal: &[u64; 12],
+    constants: &[u64; 208],
+    list: &[u64],
+    from: usize,
+) -> [[u64; 4]; B]
+    requires { (1 ≤ B) × (B ≤ 3) × (1 ≤ half) × (half ≤ 6) × (partial_rounds ≤ 64) × (Words p (take (4 * B * (2 * half) + partial_rounds) constants.now)) × (from + 4 * B ≤ length list.now) }
+    ensures { flat B result ≡ add_lists p (permute p half partial_rounds diagonal.now constants.now (take (4 * B) (drop from list.now))) (take (4 * B) (drop from list.now)) }
+{
+    let r = rounds::permute::<B>(half, partial_rounds, diagonal, constants, list, from);
+    add_input(r, list, from)
+}
+
+fn compress_row<const B: usize>(
+    node_size: usize,
+    half: usize,
+    partial_rounds: usize,
+    diagonal: &[u64; 12],
+    constants: &[u64; 208],
+    row: &[u64],
+    node: &mut [u64],
+)
+    requires { (node_size ≤ 4 * B) × (1 ≤ B) × (B ≤ 3) × (1 ≤ half) × (half ≤ 6) × (partial_rounds ≤ 64) × (Words p (take (4 * B * (2 * half) + partial_rounds) constants.now)) × (length row.now ≡ 4 * B) × (length node.old ≡ node_size) }
+    ensures { node.new ≡ compress p node_size half partial_rounds diagonal.now constants.now row.now }
+{
+    let r = compressed::<B>(half, partial_rounds, diagonal, constants, row, 0);
+    write(r, node_size, node, 0);
+}
+
+fn compress_row_at<const B: usize>(
+    node_size: usize,
+    half: usize,
+    partial_rounds: usize,
+    diagonal: &[u64; 12],
+    constants: &[u64; 208],
+    store: &mut [u64],
+    from: usize,
+    to: usize,
+)
+    requires { (node_size ≤ 4 * B) × (1 ≤ B) × (B ≤ 3) × (1 ≤ half) × (half ≤ 6) × (partial_rounds ≤ 64) × (Words p (take (4 * B * (2 * half) + partial_rounds) constants.now)) × (from + 4 * B ≤ length store.old) × (to + node_size ≤ length store.old) }
+    ensures { store.new ≡ paste store.old to (compress p node_size half partial_rounds diagonal.now constants.now (take (4 * B) (drop from store.old))) node_size }
+{
+    let r = compressed::<B>(half, partial_rounds, diagonal, constants, store, from);
+    write(r, node_size, store, to);
 }
 
 // The permutation of a state, in its place.
@@ -164,8 +179,11 @@ pub fn permute(
     requires { (Width width) × (1 ≤ half) × (half ≤ 6) × (partial_rounds ≤ 64) × (Words p (take (width * (2 * half) + partial_rounds) constants.now)) × (length state.old ≡ width) }
     ensures { state.new ≡ permute p half partial_rounds diagonal.now constants.now state.old }
 {
-    let r = permuted(width, half, partial_rounds, diagonal, constants, state, 0);
-    write_state(r, width, state);
+    match width {
+        4 => permute_state::<1>(half, partial_rounds, diagonal, constants, state),
+        8 => permute_state::<2>(half, partial_rounds, diagonal, constants, state),
+        _ => permute_state::<3>(half, partial_rounds, diagonal, constants, state),
+    }
 }
 
 // The compression of a row to a node.
@@ -182,8 +200,35 @@ pub fn compress(
     requires { (Width width) × (node_size ≤ width) × (1 ≤ half) × (half ≤ 6) × (partial_rounds ≤ 64) × (Words p (take (width * (2 * half) + partial_rounds) constants.now)) × (length row.now ≡ width) × (length node.old ≡ node_size) }
     ensures { node.new ≡ compress p node_size half partial_rounds diagonal.now constants.now row.now }
 {
-    let r = compressed(width, half, partial_rounds, diagonal, constants, row, 0);
-    write(r, node_size, node, 0);
+    match width {
+        4 => compress_row::<1>(
+            node_size,
+            half,
+            partial_rounds,
+            diagonal,
+            constants,
+            row,
+            node,
+        ),
+        8 => compress_row::<2>(
+            node_size,
+            half,
+            partial_rounds,
+            diagonal,
+            constants,
+            row,
+            node,
+        ),
+        _ => compress_row::<3>(
+            node_size,
+            half,
+            partial_rounds,
+            diagonal,
+            constants,
+            row,
+            node,
+        ),
+    }
 }
 
 // The row of a store from `from` on is compressed, and its node written from `to` on.
@@ -201,14 +246,36 @@ pub fn compress_at(
     requires { (Width width) × (node_size ≤ width) × (1 ≤ half) × (half ≤ 6) × (partial_rounds ≤ 64) × (Words p (take (width * (2 * half) + partial_rounds) constants.now)) × (from + width ≤ length store.old) × (to + node_size ≤ length store.old) }
     ensures { store.new ≡ paste store.old to (compress p node_size half partial_rounds diagonal.now constants.now (take width (drop from store.old))) node_size }
 {
-    let r = compressed(
-        width,
-        half,
-        partial_rounds,
-        diagonal,
-        constants,
-        store,
-        from,
-    );
-    write(r, node_size, store, to);
+    match width {
+        4 => compress_row_at::<1>(
+            node_size,
+            half,
+            partial_rounds,
+            diagonal,
+            constants,
+            store,
+            from,
+            to,
+        ),
+        8 => compress_row_at::<2>(
+            node_size,
+            half,
+            partial_rounds,
+            diagonal,
+            constants,
+            store,
+            from,
+            to,
+        ),
+        _ => compress_row_at::<3>(
+            node_size,
+            half,
+            partial_rounds,
+            diagonal,
+            constants,
+            store,
+            from,
+            to,
+        ),
+    }
 }

@@ -1,10 +1,11 @@
-use mathlib.Core.List.{[], ◌∷◌}
+use Rattle.std.proofs.Common.{arith}
 use Rattle.modular.specs.Goldilocks.{p}
-use Rattle.blocks.proofs.Slices.{added_four}
+use Rattle.blocks.proofs.Each.{made_more}
+use Rattle.blocks.proofs.Slices.{added_all}
 use Rattle.permutation.proofs.add_input.Goals as goal
 
+pub loop-i-preserved : goal.loop-i-preserved
+loop-i-preserved g c = made_more c.loop-i-test.true c.loop-i.invariant c.add_block.ensures
+
 pub returns : goal.returns
-returns c =
-    let a = c.args in
-    added_four p a.x (c.sum_word.result ∷ c.sum_word-2.result ∷ c.sum_word-3.result ∷ c.sum_word-4.result ∷ []) a.list.now a.at
-    c.sum_word.ensures c.sum_word-2.ensures c.sum_word-3.ensures c.sum_word-4.ensures
+returns g c = added_all p g.row.B c.args.s c.loop-i.added c.args.list.now c.args.at (λ k h. c.loop-i.invariant.at k (omega arith))

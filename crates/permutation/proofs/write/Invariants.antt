@@ -1,11 +1,7 @@
-use mathlib.Core.Path.{◌≡◌}
-use Prim.Native.Nat.{◌-◌, ◌≤◌}
-use lib.ListN.{length}
-use lib.Seq.{paste}
+use Rattle.std.proofs.Common.{◌≡◌, length}
+use Rattle.std.proofs.Math.Seq.{paste}
+use Rattle.blocks.specs.Blocks.{flat}
 use Rattle.permutation.proofs.write.Given as goal
 
 abbrev pub invariant-loop-i : goal.invariant-loop-i
-invariant-loop-i l = (l.i ≤ l.n) × (length l.list ≡ length l.initial.list) × (l.list ≡ paste l.initial.list l.at l.words l.i)
-
-abbrev pub decreases-loop-i : goal.decreases-loop-i
-decreases-loop-i l = l.n - l.i
+invariant-loop-i g l = (length l.list ≡ length l.initial.list) × (l.list ≡ paste l.initial.list l.at (flat g.row.B l.s) l.i)

@@ -1,8 +1,8 @@
-use Rattle.blocks.proofs.Lists.{four_eq}
+use Rattle.std.proofs.Common.{ℕ, ◌%◌, ◌<◌, arith}
+use Rattle.blocks.proofs.Each.{map_all}
 use Rattle.layers.proofs.external.lows.Goals as goal
 
 pub returns : goal.returns
-returns c = (
-  four_eq c.low.ensures.0 c.low-2.ensures.0 c.low-3.ensures.0 c.low-4.ensures.0,
-  record { at0 = c.low.ensures.1; at1 = c.low-2.ensures.1; at2 = c.low-3.ensures.1; at3 = c.low-4.ensures.1 },
-)
+returns g c =
+    let part = λ (k : ℕ) (h : k < g.row.B). c.loop-i.invariant.at k (omega arith) in
+    (map_all (λ n. n % 4294967296) g.row.B c.args.s c.loop-i.parts (λ k h. (part k h).0), record { at = λ k h. (part k h).1 })

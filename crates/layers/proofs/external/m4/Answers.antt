@@ -1,8 +1,8 @@
+use Rattle.std.proofs.Common.{get_or, rules}
 use Rattle.blocks.proofs.Halves.{m4_sums}
-use Rattle.std.proofs.Common.{rules}
 use Rattle.layers.proofs.external.m4.Goals as goal
 
 pub returns : goal.returns
 returns c =
-    let a = c.args in
-    (m4_sums a.a a.b a.c a.d, search rules)
+    let x = c.args.x in
+    (m4_sums (get_or x 0 0) (get_or x 1 0) (get_or x 2 0) (get_or x 3 0), search rules)

@@ -1,6 +1,4 @@
-use mathlib.Core.Path.{◌∙◌}
 use Rattle.permutation.proofs.halves.sums.Goals as goal
 
-pub returns : goal.returns
-returns c =
-    c.write_state.ensures ∙ c.summed-r.ensures
+pub returns-in-4 : goal.returns-in-4
+returns-in-4 c = c.sums_of.ensures

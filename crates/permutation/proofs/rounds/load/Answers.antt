@@ -1,7 +1,6 @@
-use mathlib.Core.Path.{sym}
-use Rattle.modular.proofs.Fours.{four_at_lem}
+use Rattle.std.proofs.Common.{arith}
+use Rattle.blocks.proofs.Turns.{loaded_all}
 use Rattle.permutation.proofs.rounds.load.Goals as goal
 
 pub returns : goal.returns
-returns c =
-    sym (four_at_lem c.args.list.now c.args.at c.requires)
+returns g c = loaded_all g.row.B c.args.list.now c.loop-i.s c.args.at (λ k h. c.loop-i.invariant.at k (omega arith))
