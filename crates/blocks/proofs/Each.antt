@@ -24,9 +24,6 @@ pub record Made (P : ℕ → List ℕ → Type 0) (n i : ℕ) (rs : List (List �
   pub at : (k : ℕ) → k < i → P k (get_or rs k [])
 
 module _ {P : ℕ → List ℕ → Type 0} {n : ℕ} where
-  pub made_none : {rs : List (List ℕ)} → length rs ≡ n → Made P n 0 rs
-  made_none l = record { long = l; at = λ k h. absurd (omega arith) }
-
   pub made_more : {i : ℕ} {rs : List (List ℕ)} {r : List ℕ} → i < n → Made P n i rs → P i r → Made P n (i + 1) (set rs i r)
   made_more {i} {rs} {r} h M here =
       let l : i < length rs = omega (arith, M.long) in

@@ -1,9 +1,9 @@
 -- M_E as code makes it, by its halves: the sums and M4 block by block, on numbers that stay below p, and the one after the other.
-use mathlib.Core.Path.{◌≡◌, refl, sym, ap, ap₂, subst, ◌∙◌}
+use mathlib.Core.Path.{◌≡◌, refl, sym, ap, ap₂, ◌∙◌}
 use mathlib.Core.Logic.{◌≢◌, inl, inr}
 use mathlib.Core.List.{List, [], ◌∷◌, map}
 use Prim.Native.Nat.{ℕ, zero, suc, ◌+◌, ◌*◌, ◌/◌, ◌%◌, ◌<◌, ◌≤◌}
-use native.Mathlib.Nat.{add-zero, zero-add, add_assoc, mul-suc, mod-eq_of_lt}
+use native.Mathlib.Nat.{add-zero, zero-add, add_assoc, mod-eq_of_lt}
 use native.Mathlib.Omega.{arith}
 use lib.ListN.{get_or, drop}
 use Rattle.modular.specs.Arithmetic.{add}
@@ -38,13 +38,6 @@ plus_within u v = record {
   at2 = omega (arith, u.at2, v.at2);
   at3 = omega (arith, u.at3, v.at3);
 }
-
--- the sum of i blocks
-pub total_within : (m : ℕ) {n : ℕ} (bs : List (List ℕ)) → AllWithin m n bs → (i : ℕ) → i ≤ n → Within (m * i) (total i bs)
-total_within m bs w zero h = record { at0 = omega arith; at1 = omega arith; at2 = omega arith; at3 = omega arith }
-total_within m bs w (suc i) h =
-    let n : m * i + m ≡ m * suc i = omega (arith, mul-suc m i) in
-    subst (λ (k : ℕ). Within k (total (suc i) bs)) n (plus_within (total_within m bs w i (omega arith)) (w.at i (omega arith)))
 
 module _ (p : ℕ) where
   within_words : {n : ℕ} (b : List ℕ) → n < p → Within n b → residues p (four b) ≡ four b

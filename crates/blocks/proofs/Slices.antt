@@ -1,6 +1,6 @@
 -- The words that the permutation and the compression put into slices.
-use mathlib.Core.Path.{◌≡◌, refl, sym, ap, ap₂, subst, ◌∙◌}
-use mathlib.Core.Logic.{◌≢◌, inl, inr}
+use mathlib.Core.Path.{◌≡◌, refl, sym, ap, ap₂, ◌∙◌}
+use mathlib.Core.Logic.{inl, inr}
 use mathlib.Core.List.{List, [], ◌++◌, append-nil}
 use Prim.Native.Nat.{ℕ, suc, ◌+◌, ◌*◌, ◌%◌, ◌<◌, ◌≤◌}
 use native.Mathlib.Nat.{add_comm, add-zero, zero-add}
@@ -13,7 +13,7 @@ use Rattle.poseidon2.specs.Layers.{add_lists}
 use Rattle.poseidon2.specs.Residues.{residues}
 use Rattle.poseidon2.specs.Rounds.{permute}
 use Rattle.poseidon2.specs.Compression.{compress}
-use Rattle.poseidon2.specs.Statements.{Width, Words}
+use Rattle.poseidon2.specs.Statements.{Width}
 use Rattle.poseidon2.proofs.Words.{residues_length}
 use Rattle.poseidon2.proofs.Places.{add_at_lem, add_lists-take}
 use Rattle.blocks.specs.Blocks.{four, flat_from, flat}
@@ -88,34 +88,16 @@ put_compress p n half rp to d D C xs ys e =
     let l : n ≤ n = omega arith in
     ap (λ (zs : List ℕ). take to d ++ zs ++ drop (to + n) d) (e ∙ sym (take-take n n (add_lists p (permute p half rp D C xs) xs) l))
 
--- the width that is left
-pub twelve : {w : ℕ} → Width w → w ≢ 4 → w ≢ 8 → w ≡ 12
-twelve (inl e) f g = absurd (f e)
-twelve (inr (inl e)) f g = absurd (g e)
-twelve (inr (inr e)) f g = e
-
--- what is asked of the constants and of a list's length, at a width that is known
-pub words_at : {p w t : ℕ} (n rp : ℕ) (C : List ℕ) → w ≡ t → Words p (take (w * n + rp) C) → Words p (take (t * n + rp) C)
-words_at {p} n rp C e u = subst (λ (w : ℕ). Words p (take (w * n + rp) C)) e u
-
 pub width_small : (n : ℕ) {w : ℕ} → Width w → n ≤ w → n ≤ 12
 width_small n (inl e) h = omega (arith, e)
 width_small n (inr (inl e)) h = omega (arith, e)
 width_small n (inr (inr e)) h = omega (arith, e)
 
--- a width is 4 or more, and 8 or more where it is not 4
+-- a width is 4 or more
 pub width_some : {w : ℕ} → Width w → 4 ≤ w
 width_some (inl e) = omega (arith, e)
 width_some (inr (inl e)) = omega (arith, e)
 width_some (inr (inr e)) = omega (arith, e)
-
-pub width_more : {w : ℕ} → Width w → w ≢ 4 → 8 ≤ w
-width_more (inl e) f = absurd (f e)
-width_more (inr (inl e)) f = omega (arith, e)
-width_more (inr (inr e)) f = omega (arith, e)
-
-pub whole_fits : (d : List ℕ) (n : ℕ) → length d ≡ n → 0 + n ≤ length d
-whole_fits d n l = omega (arith, l)
 
 -- ---- blocks that are written one after another
 
@@ -131,7 +113,7 @@ block_written d x at h =
     ap (λ (ys : List ℕ). set ys (at + 3) (get_or x 3 0)) three ∙ paste-suc d at F 3 0 (omega arith) (omega arith)
 
 -- the next block of a list, behind those that stand there
-pub next_block : (d F b : List ℕ) (k : ℕ) → take 4 b ≡ take 4 (drop k F) → k + 4 ≤ length d → k + 4 ≤ length F
+next_block : (d F b : List ℕ) (k : ℕ) → take 4 b ≡ take 4 (drop k F) → k + 4 ≤ length d → k + 4 ≤ length F
     → paste (paste d 0 F k) k b 4 ≡ paste d 0 F (k + 4)
 next_block d F b k e h g =
     let all : 0 + k ≡ k = zero-add k in

@@ -1,4 +1,4 @@
-// The pieces of Poseidon2's rounds (Rules 3) on lazy numbers, one function for each width. A state is its blocks, by value.
+// The pieces of Poseidon2's rounds (Rules 3) on lazy numbers. A state is its blocks, by value: B is 1, 2 or 3, for 4, 8 or 12 words.
 #![tactic(auto)]
 
 pub mod external;
