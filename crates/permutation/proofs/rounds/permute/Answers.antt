@@ -7,6 +7,20 @@ use Rattle.blocks.proofs.Lists.{fewer_words}
 use Rattle.blocks.proofs.Turns.{permutation_code, twice, one_less}
 use Rattle.permutation.proofs.rounds.permute.Goals as goal
 
+pub full_rounds-a-requires : goal.full_rounds-a-requires
+full_rounds-a-requires g c =
+    let a = c.args in
+    let t = 4 * g.row.B in
+    let n = twice t a.half in
+    (search rules, (c.requires.0, c.requires.1, c.requires.3, grind arith, fewer_words (lit< tt) (0 + t * a.half) (t * (2 * a.half) + a.partial_rounds) a.constants.now (omega arith) c.requires.5))
+
+pub partial_rounds-b-requires : goal.partial_rounds-b-requires
+partial_rounds-b-requires g c =
+    let a = c.args in
+    let t = 4 * g.row.B in
+    let n = twice t a.half in
+    (search rules, (c.requires.0, c.requires.1, grind arith, c.requires.4, fewer_words (lit< tt) (t * a.half + a.partial_rounds) (t * (2 * a.half) + a.partial_rounds) a.constants.now (omega arith) c.requires.5))
+
 pub raise-e-requires : goal.raise-e-requires
 raise-e-requires g c =
     let a = c.args in
