@@ -1,8 +1,8 @@
 // The set of a line of the input: its five numbers, and the lists D and C.
-use crate::answers::Refused;
 use crate::input::Input;
+use crate::lists;
 use crate::lists::List;
-use crate::{answers, lists};
+use opening_tree::Refusal;
 use parameters::ParameterSet;
 use std::fmt;
 
@@ -39,10 +39,10 @@ impl fmt::Display for Numbers {
 }
 
 // What validation answers for a line's numbers, D and C, which may be longer than any set's.
-pub fn validate(input: &mut Input<'_>, numbers: Numbers) -> Result<ParameterSet, Refused> {
+pub fn validate(input: &mut Input<'_>, numbers: Numbers) -> Result<ParameterSet, Refusal> {
     let diagonal = List::<16>::read(input);
     let constants = List::<224>::read(input);
-    answers::set(opening_tree::validate(
+    opening_tree::validate(
         numbers.width,
         numbers.node_size,
         numbers.height,
@@ -50,7 +50,7 @@ pub fn validate(input: &mut Input<'_>, numbers: Numbers) -> Result<ParameterSet,
         numbers.partial_rounds,
         diagonal.as_slice(),
         constants.as_slice(),
-    ))
+    )
 }
 
 // The digest of all that a set holds but its kept values, its unused places too.
@@ -81,7 +81,7 @@ fn kept_values(width: u64, diagonal: &[u64; 12], beyond: u64) -> ([u64; 12], u64
         &diagonal[..used],
         &constants[..2 * used],
     );
-    let (right, total_inverse) = match answers::set(validation) {
+    let (right, total_inverse) = match validation {
         Ok(set) => {
             let inverses = set.inverses;
             (inverses, set.total_inverse)

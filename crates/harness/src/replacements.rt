@@ -1,5 +1,5 @@
 // The section `replacements`: leaves replaced one after another in a store that building wrote.
-use crate::answers::Compressions;
+use crate::answers::Counted;
 use crate::input::Input;
 use crate::lists::List;
 use crate::shown::Manner;
@@ -25,7 +25,11 @@ fn replacement(
     lists::put(places, fault.wrapping_sub(1), value);
     let changed = opening_tree::replace(set, &mut places[..given], place, leaf.as_slice());
     let digest = lists::digest(store.as_slice());
-    writeln!(out, "replace {place}{} {digest}", Compressions(changed))
+    writeln!(
+        out,
+        "replace {place}{} {digest}",
+        Counted("compressions", changed)
+    )
 }
 
 // One tree and its replacements, in order.

@@ -1,5 +1,5 @@
 // Replacements and pushes, one after another on a store.
-use harness::answers::Compressions;
+use harness::answers::Counted;
 use harness::input::Input;
 use harness::lists;
 use harness::lists::List;
@@ -33,7 +33,7 @@ fn replace(
     let place = input.number();
     let leaf = List::<16>::read(input);
     let changed = opening_tree::replace(set, store, place, leaf.as_slice());
-    write!(out, "replace {place}{}", Compressions(changed))
+    write!(out, "replace {place}{}", Counted("compressions", changed))
 }
 
 // The records' numbers are seven a record.
@@ -46,7 +46,12 @@ fn push(
     let records = List::<1344>::read(input);
     let numbers = records.as_slice();
     let changed = adapters::pushing::push_list(set, store, numbers);
-    write!(out, "push {}{}", numbers.len() / 7, Compressions(changed))
+    write!(
+        out,
+        "push {}{}",
+        numbers.len() / 7,
+        Counted("compressions", changed)
+    )
 }
 
 // One call's line, with the digest of the store after it.

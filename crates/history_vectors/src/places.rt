@@ -1,5 +1,5 @@
 // Each place's own opening, the verdict on its leaf with it, and its parts.
-use harness::answers::Said;
+use harness::answers::{Refused, Said};
 use harness::lists::List;
 use harness::shown::Manner;
 use harness::{answers, lists};
@@ -19,13 +19,12 @@ fn node_at(store: &[u64], at: u64, node_size: usize) -> &[u64] {
 fn print_level(out: &mut Output, set: ParameterSet, siblings: &[u64], level: u64) -> fmt::Result {
     let mut part = [0; 16];
     let size = set.width.wrapping_sub(set.node_size).min(16) as usize;
-    let outcome = opening_tree::copy_level(set, siblings, level, &mut part[..size]);
-    match answers::done(outcome) {
+    match opening_tree::copy_level(set, siblings, level, &mut part[..size]) {
         Ok(()) => {
             let words = adapters::reading::level_words(set, siblings, level);
             write!(out, " {}", lists::digest(words))
         }
-        Err(refused) => write!(out, " {refused}"),
+        Err(refusal) => write!(out, " {}", Refused(refusal)),
     }
 }
 

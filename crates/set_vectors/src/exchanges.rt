@@ -1,6 +1,5 @@
 // Exchanges of D and of h.
 use crate::sets;
-use harness::answers;
 use harness::input::Input;
 use harness::lists::List;
 use std::fmt;
@@ -13,10 +12,7 @@ pub fn diagonal(out: &mut Output, input: &mut Input<'_>) -> fmt::Result {
     let list = List::<16>::read(input);
     let words = list.as_slice();
     write!(out, "{numbers} exchange_diagonal {}", words.len())?;
-    sets::print_answer(
-        out,
-        answers::set(opening_tree::exchange_diagonal(set, words)),
-    )
+    sets::print_answer(out, opening_tree::exchange_diagonal(set, words))
 }
 
 // An exchange of h.
@@ -24,8 +20,5 @@ pub fn height(out: &mut Output, input: &mut Input<'_>) -> fmt::Result {
     let (numbers, set) = sets::read(input);
     let height = input.number();
     write!(out, "{numbers} exchange_height {height}")?;
-    sets::print_answer(
-        out,
-        answers::set(opening_tree::exchange_height(set, height)),
-    )
+    sets::print_answer(out, opening_tree::exchange_height(set, height))
 }

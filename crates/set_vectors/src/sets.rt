@@ -4,6 +4,7 @@ use harness::handed::Numbers;
 use harness::input::Input;
 use harness::shown::Spaced;
 use harness::{handed, lists};
+use opening_tree::Refusal;
 use parameters::ParameterSet;
 use std::fmt;
 use std::fmt::Write;
@@ -29,7 +30,7 @@ fn digest_of(set: &ParameterSet) -> u64 {
 }
 
 // The rest of a line: what validation answers, or an exchange.
-pub fn print_answer(out: &mut Output, answer: Result<ParameterSet, Refused>) -> fmt::Result {
+pub fn print_answer(out: &mut Output, answer: Result<ParameterSet, Refusal>) -> fmt::Result {
     match answer {
         Ok(set) => {
             let digest = digest_of(&set);
@@ -37,7 +38,7 @@ pub fn print_answer(out: &mut Output, answer: Result<ParameterSet, Refused>) -> 
             let total_inverse = set.total_inverse;
             writeln!(out, " accepted {digest} kept{inverses} {total_inverse}")
         }
-        Err(refused) => writeln!(out, " {refused} {}", digest_of(&NO_SET)),
+        Err(refusal) => { writeln!(out, " {} {}", Refused(refusal), digest_of(&NO_SET)) }
     }
 }
 

@@ -1,5 +1,5 @@
 // The section `extractions`: the two rows that the extractor finds, or what turns it back.
-use harness::answers::Level;
+use harness::answers::Counted;
 use harness::handed;
 use harness::input::Input;
 use harness::lists::List;
@@ -46,7 +46,7 @@ pub fn case(out: &mut Output, input: &mut Input<'_>) -> fmt::Result {
     );
     let first_shown = Manner::InFull.show(first_row.as_slice());
     let second_shown = Manner::InFull.show(second_row.as_slice());
-    let level = Level(extraction);
+    let level = Counted("level", extraction);
     writeln!(
         out,
         "{numbers} extract{level} first{first_shown} second{second_shown}"

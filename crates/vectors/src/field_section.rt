@@ -1,7 +1,7 @@
 // The section `field`.
-use harness::answers;
+use harness::answers::Refused;
 use harness::generator::Generator;
-use opening_tree::{difference, inverse, power, product, seventh_root, sum};
+use opening_tree::{Refusal, difference, inverse, power, product, seventh_root, sum};
 use std::fmt;
 use std::fmt::Write;
 use streams::Output;
@@ -38,15 +38,15 @@ impl fmt::Display for Call {
 }
 
 impl Call {
-    fn answer(self) -> Result<u64, answers::Refused> {
-        answers::word(match self {
+    fn answer(self) -> Result<u64, Refusal> {
+        match self {
             Call::Sum(a, b) => sum(a, b),
             Call::Difference(a, b) => difference(a, b),
             Call::Product(a, b) => product(a, b),
             Call::Power(a, e) => power(a, e),
             Call::Inverse(a) => inverse(a),
             Call::SeventhRoot(a) => seventh_root(a),
-        })
+        }
     }
 }
 
@@ -54,7 +54,7 @@ impl Call {
 fn case_line(out: &mut Output, call: Call) -> fmt::Result {
     match call.answer() {
         Ok(word) => writeln!(out, "{call} = {word}"),
-        Err(refused) => writeln!(out, "{call} {refused}"),
+        Err(refusal) => writeln!(out, "{call} {}", Refused(refusal)),
     }
 }
 
@@ -62,7 +62,7 @@ fn case_line(out: &mut Output, call: Call) -> fmt::Result {
 fn answer_line(out: &mut Output, call: Call) -> fmt::Result {
     match call.answer() {
         Ok(word) => writeln!(out, "{word}"),
-        Err(refused) => writeln!(out, "{refused}"),
+        Err(refusal) => writeln!(out, "{}", Refused(refusal)),
     }
 }
 

@@ -1,4 +1,5 @@
 // The section `sets`: what validation answers.
+use harness::answers::Refused;
 use harness::handed;
 use harness::handed::Numbers;
 use harness::input::Input;
@@ -15,6 +16,6 @@ pub fn case(out: &mut Output, input: &mut Input<'_>) -> fmt::Result {
             "{numbers} validate accepted {}",
             handed::digest_of(&set)
         ),
-        Err(refused) => writeln!(out, "{numbers} validate {refused}"),
+        Err(refusal) => writeln!(out, "{numbers} validate {}", Refused(refusal)),
     }
 }
