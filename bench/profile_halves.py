@@ -2,7 +2,7 @@
 
 usage: profile_halves.py, after `make library`; needs cc, objdump and valgrind
 
-The compiler joins both halves with the full rounds, so that a profiler names one function for them, permutation::rounds::full_rounds12 for
+The compiler joins both halves with the full rounds, so that a profiler names one function for them, permutation::rounds::full_rounds::<=3> for
 t = 12. Within its loop they stand one after the other. The loop begins where its last jump leads back to; M4 begins at the first sum with
 a factor of 2, `lea (a,b,2)`, to within a few instructions; and it ends where the loop asks whether a round is left, at the first jump under a
 condition. By these places any profile of the library by addresses can be read. At t = 4 there are no sums, and the first M_E stands before
@@ -53,7 +53,7 @@ def built(width: int) -> Path:
 
 def stretches(program: Path, width: int) -> tuple[range, list[range]]:
     """The addresses of the sums, and those of M4 in each block."""
-    name = f"permutation::rounds::full_rounds{width}"
+    name = f"permutation::rounds::full_rounds::<={width // 4}>"
     text = said("objdump", "-d", "--no-show-raw-insn", f"--disassemble={name}", program)
     code = [(int(m[1], 16), m[2], m[3]) for m in map(LINE.match, text.splitlines()) if m]
     back = [int(operand.split()[0], 16) for at, jump, operand in code if jump == "jmp" and int(operand.split()[0], 16) < at]

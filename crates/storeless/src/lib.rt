@@ -50,7 +50,8 @@ fn node(
     nodes::compress_row(d, diagonal, constants, x)
 }
 
-// The n nodes of a level from the first on, node by node. Leaves are copied at once.
+// The n nodes of a level from the first on, node by node. Leaves are copied at once. Node and row call one another, the level and the count of
+// nodes falling: the customer names this form, so no loop stands for it.
 #[cycle(node_row)]
 fn row(
     d: Dimensions,
