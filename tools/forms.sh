@@ -1,14 +1,14 @@
 #!/usr/bin/env bash
 # usage: forms.sh [COMMIT]
 # Counts the places of src/ that have the forms of the older language, as docs/DESIGN-PASS.md has them: a line for each kind of place, with its
-# count at the commit. The pattern beside a count is what finds the places: `git grep -nE PATTERN COMMIT -- 'crates/*/src/*.rt'` shows them.
+# count at the commit. The pattern beside a count is what finds the places: `git grep -nP PATTERN COMMIT -- 'crates/*/src/*.rt'` shows them.
 set -euo pipefail
 cd "$(dirname "$0")/.."
 commit=${1:-HEAD}
 
 count() { # POINT WHAT PATTERN [CRATES]
     local found
-    found=$(git grep -hE "$3" "$commit" -- "crates/${4:-*}/src/*.rt" | wc -l) || true
+    found=$(git grep -hP "$3" "$commit" -- "crates/${4:-*}/src/*.rt" | wc -l) || true
     printf '%s | %s | %d | `%s`\n' "$1" "$2" "$found" "$3"
 }
 
@@ -24,15 +24,20 @@ count 2 'functions for records and for their numbers' 'fn (each|search|rise|each
 count 2 'functions for one answer' 'fn of_(answer|changed|extraction)\('
 count 2 'functions on the first part of a buffer' 'fn (entry_to|entry_to_part|replace_in_part|in_part|in_place|on_part|compress_to|leaf_to|part_of)\('
 count 3 'loops that count by hand' '^ *(while|loop)\b'
-count 3 'loops over the numbers of a list' '^ *for \w+ in 0\.\.'
-count 4 'equality by hand' 'fn (first_alike|same_words|same|is_among|is_among_few|is_among_four|are_inverses)\('
-count 4 'copying by hand' 'fn (copy_words|put_bytes|write|write_block|write_state|put_block|block_at|load|put_node|leaf_row|node_at|put|part|rest)\('
-count 4 'conversion by hand' 'fn (wide|number_of|low_bytes|decode|read_runs|write_decimal|put_decimal|grown)\('
-count 4 'printing by hand' 'fn (print\w*|text|number|operand|end_line|refused|kept|put_refused|put_lines)\((out|number|words)'
+count 3 'loops over the places of a list' '^ *for \w+ in 0\.\.[a-z_.]*len\('
+count 4 'comparisons of list places by hand' 'if \w+\[i\] != \w+\[i\]|if number == (\w|numbers\[i\]) \{'
+count 4 'conditions answered by returns' '^        return (true|false);'
+count 4 'copies of list places by hand' '^ +\w+\[(\w+ \+ )?\w+\] = \w+\[(\w+ \+ )?\w+\];'
+count 4 'fields copied one by one' '^ +(\w+): (tally|set|numbers)\.\1,'
+count 4 'calls that print text or a number by hand' 'output::(text|number|operand|end_line)\(|answers::refused\('
 count 5 'the facts of a set that is accepted' 'first_refusal \(set_refusals set\) ≡ 0'
 count 5 'the facts of rounds' '\(1 ≤ half\) × \(half ≤ 6\)'
 count 5 'the facts of dimensions' '\(Valid(Set d constants\.now|Numbers d)\)'
 count 5 'D and C beside the numbers of rounds or of a tree' 'diagonal: &\[u64; 12\]'
-count 5 'input and place beside one another' 'input: &\[u8\], at: usize|^    at: usize,'
+count 5 'the input beside the place that is read next' 'input: &\[u8\],'
 count 6 'buffers with a count beside' '^    (pub )?count: usize,'
 count 7 'switches on a step' 'if (phase|entry) == '
+
+answers() { git grep -hE '^pub [^ ]+ : goal[.]' "$commit" -- crates | wc -l; }
+printf '8 | answers of goals | %d | `^pub [^ ]+ : goal[.]` in crates/*/proofs\n' "$(answers)"
+printf '8 | lines of proofs | %d | all of crates/*/proofs\n' "$(git grep -h '' "$commit" -- 'crates/*/proofs/*.antt' | wc -l)"
