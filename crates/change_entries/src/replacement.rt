@@ -44,8 +44,13 @@ pub fn replace(
 {
     check_replace(set, store, place, leaf)?;
     let d = sets::dimensions(set);
-    let diagonal = set.diagonal;
-    let constants = set.constants;
-    let made = trees::replace(d, &diagonal, &constants, store, place as usize, leaf);
+    let made = trees::replace(
+        d,
+        &set.diagonal,
+        &set.constants,
+        store,
+        place as usize,
+        leaf,
+    );
     Ok(made)
 }

@@ -153,13 +153,11 @@ pub fn extract(
     };
     check_extract(set, two, first_row, second_row)?;
     let d = sets::dimensions(set);
-    let diagonal = set.diagonal;
-    let constants = set.constants;
     let at = place as usize;
     let level = paths::collisions::lowest_level(
         d,
-        &diagonal,
-        &constants,
+        &set.diagonal,
+        &set.constants,
         at,
         first,
         first_siblings,
@@ -168,8 +166,8 @@ pub fn extract(
     );
     paths::collisions::copy_row(
         d,
-        &diagonal,
-        &constants,
+        &set.diagonal,
+        &set.constants,
         at,
         first,
         first_siblings,
@@ -178,8 +176,8 @@ pub fn extract(
     );
     paths::collisions::copy_row(
         d,
-        &diagonal,
-        &constants,
+        &set.diagonal,
+        &set.constants,
         at,
         second,
         second_siblings,

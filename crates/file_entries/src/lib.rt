@@ -34,15 +34,13 @@ pub fn leaf_of_file(set: ParameterSet, contents: &[u8], leaf: &mut [u64]) -> Res
     let node_size = set.node_size as usize;
     let half = (set.full_rounds / 2) as usize;
     let partial_rounds = set.partial_rounds as usize;
-    let diagonal = set.diagonal;
-    let constants = set.constants;
     files::leaf_of(
         width,
         node_size,
         half,
         partial_rounds,
-        &diagonal,
-        &constants,
+        &set.diagonal,
+        &set.constants,
         contents,
         leaf,
     );

@@ -1,4 +1,4 @@
-// The opening reader, by thin functions over the covered one of `levels`.
+// The opening reader: methods over the one function of `levels`, and functions by the names of Rules 8.8.
 ghost use Rattle.std.specs.Prelude.{◌≡◌};
 ghost use Rattle.reader_entries.specs.Readers.{part_reply, words_given, read_reply, read_words};
 
@@ -35,6 +35,7 @@ pub fn reader<'a>(siblings: &'a [u64]) -> OpeningReader<'a>
     OpeningReader::new(siblings)
 }
 
+// Beside the method, as Rules 8.8 list it.
 pub fn part_at<'a>(
     set: ParameterSet,
     reader: OpeningReader<'a>,

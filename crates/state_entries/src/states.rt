@@ -30,9 +30,14 @@ pub fn permute(set: ParameterSet, state: &mut [u64]) -> Result<(), Refusal>
     let width = set.width as usize;
     let half = (set.full_rounds / 2) as usize;
     let partial_rounds = set.partial_rounds as usize;
-    let diagonal = set.diagonal;
-    let constants = set.constants;
-    permutations::permute(width, half, partial_rounds, &diagonal, &constants, state);
+    permutations::permute(
+        width,
+        half,
+        partial_rounds,
+        &set.diagonal,
+        &set.constants,
+        state,
+    );
     Ok(())
 }
 
@@ -44,15 +49,13 @@ pub fn unpermute(set: ParameterSet, state: &mut [u64]) -> Result<(), Refusal>
     let width = set.width as usize;
     let half = (set.full_rounds / 2) as usize;
     let partial_rounds = set.partial_rounds as usize;
-    let constants = set.constants;
-    let inverses = set.inverses;
     permutations::unpermute(
         width,
         half,
         partial_rounds,
-        &inverses,
+        &set.inverses,
         set.total_inverse,
-        &constants,
+        &set.constants,
         state,
     );
     Ok(())
@@ -85,15 +88,13 @@ pub fn compress(set: ParameterSet, state: &[u64], node: &mut [u64]) -> Result<()
     let node_size = set.node_size as usize;
     let half = (set.full_rounds / 2) as usize;
     let partial_rounds = set.partial_rounds as usize;
-    let diagonal = set.diagonal;
-    let constants = set.constants;
     permutations::compress(
         width,
         node_size,
         half,
         partial_rounds,
-        &diagonal,
-        &constants,
+        &set.diagonal,
+        &set.constants,
         state,
         node,
     );

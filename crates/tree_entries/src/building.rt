@@ -33,9 +33,7 @@ pub fn build(set: ParameterSet, leaves: &[u64], store: &mut [u64]) -> Result<(),
 {
     check_build(set, leaves, store)?;
     let d = sets::dimensions(set);
-    let diagonal = set.diagonal;
-    let constants = set.constants;
-    trees::build(d, &diagonal, &constants, leaves, store);
+    trees::build(d, &set.diagonal, &set.constants, leaves, store);
     Ok(())
 }
 
@@ -91,8 +89,6 @@ pub fn storeless_root(set: ParameterSet, leaves: &[u64], node: &mut [u64]) -> Re
 {
     check_storeless(set, leaves, node)?;
     let d = sets::dimensions(set);
-    let diagonal = set.diagonal;
-    let constants = set.constants;
-    storeless::storeless_root(d, &diagonal, &constants, leaves, node);
+    storeless::storeless_root(d, &set.diagonal, &set.constants, leaves, node);
     Ok(())
 }

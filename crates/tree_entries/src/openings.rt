@@ -102,12 +102,10 @@ pub fn verify(
         return Verdict::Refused(refusal.number());
     }
     let d = sets::dimensions(set);
-    let diagonal = set.diagonal;
-    let constants = set.constants;
     if paths::accepts(
         d,
-        &diagonal,
-        &constants,
+        &set.diagonal,
+        &set.constants,
         root,
         place as usize,
         leaf,
