@@ -30,14 +30,9 @@ pub fn permute(set: ParameterSet, state: &mut [u64]) -> Result<(), Refusal>
     let width = set.width as usize;
     let half = (set.full_rounds / 2) as usize;
     let partial_rounds = set.partial_rounds as usize;
-    permutations::permute(
-        width,
-        half,
-        partial_rounds,
-        &set.diagonal,
-        &set.constants,
-        state,
-    );
+    let diagonal = &set.diagonal;
+    let constants = &set.constants;
+    permutations::permute(width, half, partial_rounds, diagonal, constants, state);
     Ok(())
 }
 

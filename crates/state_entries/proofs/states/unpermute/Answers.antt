@@ -15,7 +15,7 @@ use Rattle.state_entries.specs.Permutation.{state_refusals, state_reply, unpermu
 use Rattle.parameters.proofs.AcceptedSets.{state_of, used_at}
 use Rattle.state_entries.proofs.AcceptedStates.{Accepted, accepted, state_numbered}
 use Rattle.state_entries.proofs.states.unpermute.Goals as goal
-use Rattle.state_entries.proofs.states.unpermute.Goals.{After-struct_known-1, In_ok-check_state}
+use Rattle.state_entries.proofs.states.unpermute.Goals.{In_ok-check_state}
 
 pub returns-in_err-check_state : goal.returns-in_err-check_state
 unfolding state_reply unpermuted
@@ -25,7 +25,7 @@ passed : (c : In_ok-check_state) → Accepted c.args.set c.args.state.now
 passed c = accepted _ _ (sym c.in_ok-check_state.ensures)
 
 -- the set has twelve places for D
-places : (c : After-struct_known-1) → length c.args.set.diagonal ≡ 12
+places : (c : In_ok-check_state) → length c.args.set.diagonal ≡ 12
 places c = search rules
 
 pub unpermute-requires : goal.unpermute-requires
@@ -54,8 +54,8 @@ pub shape_of-state : goal.shape_of-state
 unfolding unpermute_under
 shape_of-state c =
     let A = passed (goal.at.shape_of-state c).In_ok-check_state in
-    ap length (own_state _ _ A (places (goal.at.shape_of-state c).After-struct_known-1) c.unpermute.ensures)
-    ∙ (((claims _ prime_field).invertible.permutation _ _ _ _ _ A.width (A.diagonal (places (goal.at.shape_of-state c).After-struct_known-1))).from _ (state_of _ _ _ positive A.long A.words)).width
+    ap length (own_state _ _ A (places (goal.at.shape_of-state c).In_ok-check_state) c.unpermute.ensures)
+    ∙ (((claims _ prime_field).invertible.permutation _ _ _ _ _ A.width (A.diagonal (places (goal.at.shape_of-state c).In_ok-check_state))).from _ (state_of _ _ _ positive A.long A.words)).width
     ∙ sym A.long
 
 pub returns : goal.returns
@@ -63,4 +63,4 @@ unfolding state_reply unpermuted
 returns c =
     left_as
     (done_equations (state_refusals _ _) [] _ _ (state_numbered _ _) (sym c.in_ok-check_state.ensures))
-    (own_state _ _ (passed (goal.at.returns c).In_ok-check_state) (places (goal.at.returns c).After-struct_known-1) c.unpermute.ensures)
+    (own_state _ _ (passed (goal.at.returns c).In_ok-check_state) (places (goal.at.returns c).In_ok-check_state) c.unpermute.ensures)
