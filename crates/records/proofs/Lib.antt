@@ -1,3 +1,4 @@
--- The laws of records.
+-- The laws of records, and of tests.
+mod Both
 pub mod Changes
 pub mod Listed
