@@ -1,5 +1,5 @@
 -- What holds where the copy of a level's part is not refused, and the part's length.
-use mathlib.Core.Path.{◌≡◌, sym, ◌∙◌}
+use mathlib.Core.Path.{◌≡◌, sym, ap, ◌∙◌}
 use mathlib.Core.Bool.{not, ◌&&◌}
 use mathlib.Core.List.{List}
 use Prim.Native.Nat.{ℕ, ◌*◌, ◌<◌}
@@ -14,8 +14,9 @@ use Rattle.refusals.proofs.LengthsPlacesAndWords as three
 use Rattle.parameters.specs.declared.ParameterSet.{ParameterSet}
 use Rattle.parameters.specs.ParameterSet.{prime_of, set_refusals}
 use Rattle.parameters.proofs.Accepted.{set-numbered}
+use Rattle.merkle.specs.Lists.{put, part}
 use Rattle.merkle.specs.Openings.{siblings_at}
-use Rattle.merkle.proofs.Lists.{length_part}
+use Rattle.merkle.proofs.Lists.{length_part, part_whole, put_whole}
 use Rattle.trees.specs.SetTrees.{tree_of_set, opening_words, part_words}
 use Rattle.tree_entries.specs.Trees.{has}
 use Rattle.trees.proofs.Counts.{within}
@@ -48,3 +49,7 @@ module _ (s : ParameterSet) (siblings : List ℕ) (j : ℕ) (buffer : List ℕ) 
   pub part_long : Passed s siblings j buffer → length (siblings_at (tree_of_set s) siblings j) ≡ length buffer
   unfolding siblings_at
   part_long P = length_part (j * part_words s) (part_words s) siblings (omega (arith, P.long, within (part_words s) P.level)) ∙ sym P.fits
+
+-- a list copied over another of its length
+pub whole_copy : (from to : List ℕ) → length from ≡ length to → put to 0 (part 0 (length from) from) ≡ from
+whole_copy from to e = ap (put to 0) (part_whole (length from) from (λ i. length from)) ∙ put_whole to from e

@@ -7,7 +7,7 @@ ghost use Rattle.reader_entries.specs.Copies.{copy_refusals, copy_reply, copied}
 
 use parameters::ParameterSet;
 use refusals::Refusal;
-use trees::sets;
+use trees::{nodes, sets};
 
 // Whether a set, siblings, a level and a buffer to be written are accepted, or their first refusal.
 fn check_copy(
@@ -47,6 +47,6 @@ pub fn copy_level(
 {
     check_copy(set, siblings, level, buffer)?;
     let words = sets::level_words(set, siblings, level);
-    buffer.copy_from_slice(words);
+    nodes::copy_words(words, 0, words.len(), buffer, 0);
     Ok(())
 }

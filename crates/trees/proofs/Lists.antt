@@ -5,10 +5,21 @@ use mathlib.Core.List.{List, [], ◌∷◌, ◌++◌, append_assoc}
 use Prim.Native.Nat.{ℕ, ◌+◌, ◌≤◌}
 use native.Mathlib.Omega.{arith}
 use lib.ListN.{length, take, drop, length-append, length-drop}
-use lib.Seq.{take-take, take-add, drop-drop}
+use lib.Seq.{paste, take-take, take-add, drop-drop}
 use Rattle.modular.specs.Arithmetic.{is_word, all_words}
 use Rattle.merkle.specs.Lists.{part, put}
 use Rattle.merkle.proofs.Lists.{put_paste, length-put, length_part, take_put, part_put, drop-take, eq_same, ne_same}
+
+-- what a loop leaves that copies n words
+pub copied : (xs : List ℕ) (to : ℕ) (source : List ℕ) (from n : ℕ) → from + n ≤ length source → paste xs to (drop from source) n ≡ put xs to (part from n source)
+copied xs to source from n b =
+    let v : List ℕ = part from n source in
+    let e : length v ≡ n = length_part from n source b in
+    let s : n ≤ n = omega arith in
+    sym
+    (put_paste xs to v
+    ∙ ap (paste xs to v) e
+    ∙ ap (λ (z : List ℕ). take to xs ++ z ++ drop (to + n) xs) (take-take n n (drop from source) s))
 
 pub put_length : (xs : List ℕ) (to : ℕ) (source : List ℕ) (from n : ℕ) → from + n ≤ length source → to + n ≤ length xs → length (put xs to (part from n source)) ≡ length xs
 put_length xs to source from n b c = length-put xs to (part from n source) (omega (arith, length_part from n source b))

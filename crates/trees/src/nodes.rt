@@ -9,11 +9,14 @@ ghost use Rattle.trees.specs.Shapes.{tree, ValidSet, counted};
 use crate::Dimensions;
 
 // The `count` words of the source from `from` on are copied to the target from `to` on.
+// By a loop, since `copy_from_slice` calls memmove, which the library for C does not need.
 pub fn copy_words(source: &[u64], from: usize, count: usize, target: &mut [u64], to: usize)
     requires { (from + count ≤ length source.now) × (to + count ≤ length target.old) }
     ensures { target.new ≡ put target.old to (part from count source.now) }
 {
-    target[to..to + count].copy_from_slice(&source[from..from + count]);
+    for i in 0..count {
+        target[to + i] = source[from + i];
+    }
 }
 
 // Node i of a list of nodes, in the first places of six.
