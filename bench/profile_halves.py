@@ -5,8 +5,7 @@ usage: profile_halves.py, after `make library`; needs cc, objdump and valgrind
 The compiler joins both halves with the full rounds, so that a profiler names one function for them, permutation::rounds::full_rounds::<=3> for
 t = 12. Within its loop they stand one after the other. The loop begins where its last jump leads back to; M4 begins at the first sum with
 a factor of 2, `lea (a,b,2)`, to within a few instructions; and it ends where the loop asks whether a round is left, at the first jump under a
-condition. By these places any profile of the library by addresses can be read. At t = 4 there are no sums, and the first M_E stands before
-the loop.
+condition. By these places any profile of the library by addresses can be read. At t = 4 there are no sums, and M4 begins with the loop.
 """
 
 import re
@@ -61,7 +60,7 @@ def stretches(program: Path, width: int) -> tuple[range, list[range]]:
     ends = [at for at, jump, _ in code if jump.startswith("j") and jump != "jmp"]
     end = next(at for at in ends if at > loop)
     if width == 4:
-        return range(0), [range(code[0][0], ends[0]), range(loop, end)]
+        return range(0), [range(loop, end)]
     doubled = next(at for at, what, operand in code if at > loop and what == "lea" and ",2)" in operand)
     return range(loop, doubled), [range(doubled, end)]
 
