@@ -48,6 +48,21 @@ impl Output {
         }
     }
 
+    // Bytes, which need be no text. It cannot fail: what a write gives is kept for `flush`.
+    pub fn write(&mut self, bytes: &[u8]) {
+        for byte in bytes {
+            self.push(*byte);
+        }
+    }
+
+    // A number's digits: those before the last, and the last.
+    pub fn write_decimal(&mut self, number: u64) {
+        if number >= 10 {
+            self.write_decimal(number / 10);
+        }
+        self.push(b'0' + (number % 10) as u8);
+    }
+
     // Writes what waits. The error is that of the first write that failed.
     pub fn flush(&mut self) -> io::Result<()> {
         self.write_waiting();
@@ -79,9 +94,7 @@ impl Output {
 // Text is written by `write!`, which gives an error once a write has failed.
 impl fmt::Write for Output {
     fn write_str(&mut self, text: &str) -> fmt::Result {
-        for byte in text.as_bytes() {
-            self.push(*byte);
-        }
+        self.write(text.as_bytes());
         if self.failed.is_some() {
             return Err(fmt::Error);
         }

@@ -1,0 +1,4 @@
+use Rattle.streams.proofs.Output.+write_decimal.Given as goal
+
+abbrev pub decreases-write_decimal : goal.decreases-write_decimal
+decreases-write_decimal l = l.number
