@@ -42,8 +42,8 @@ fn read_contents(input: &mut Input<'_>, bytes: &mut [u8; 16384]) -> usize
 {
     let mut numbers = [0; 16384];
     let count = lists::read(input, &mut numbers, 0);
-    for (byte, number) in bytes.iter_mut().zip(numbers) {
-        *byte = (number % 256) as u8;
+    for (byte, number) in bytes.iter_mut().zip(&numbers) {
+        *byte = (*number % 256) as u8;
     }
     count
 }
