@@ -44,7 +44,7 @@ pub fn of_answer(answer: Result<u64, Refusal>, res: &mut u64) -> u8
             *res = x;
             0
         }
-        Err(refusal) => refusal.number(),
+        Err(refused) => refused.number(),
     }
 }
 
@@ -65,6 +65,6 @@ pub fn of_sizing(
             *opening = found.opening;
             0
         }
-        Err(refusal) => refusal.number(),
+        Err(turned_down) => turned_down.number(),
     }
 }
