@@ -52,7 +52,7 @@
  * none writes what another reads or writes.
  *
  * MEMORY. No function allocates. As compiled today a call takes at most 15 kB of stack, but opening_tree_storeless_root takes more with
- * each level of the tree, at most 40 kB, and a push takes 140 kB, most of it for a map of places. Of the C library memcpy and memset are
+ * each level of the tree, at most 46 kB, and a push takes 140 kB, most of it for a map of places. Of the C library memcpy and memset are
  * needed, and nothing else.
  */
 #ifndef OPENING_TREE_H
