@@ -22,7 +22,7 @@ is the digest of the buffer that an entry wrote to, or `refused N kept`. A is on
 where N is the refusal's number, and DIGEST the digest, as vectors.py has it, of all
 238 numbers of the set in the answer, in this order: the five, the 12 places for D,
 the 208 for C, the 12 kept inverses E of D, and the kept inverse K of 1 plus their
-sum. After a refusal they are zeros.
+sum. After a refusal there is no set, and zeros are in its place.
 """
 
 import poseidon2
